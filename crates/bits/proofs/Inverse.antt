@@ -1,0 +1,37 @@
+-- `value` and `toBits` are inverse, at every width.
+-- Assumes nothing.
+use Prim.Native.Nat.{ℕ, zero, suc, _+_, _*_, _/_, _%_, _^_, _<_}
+use mathlib.Core.Path.{_≡_, refl, ap, _∙_}
+use mathlib.Core.List.{List, [], _∷_}
+use native.Mathlib.Nat.{pow-suc}
+use native.Mathlib.Omega.{arith}
+use lib.ListN.{length}
+use Rattle.bits.specs.Bits.{value, toBits, AllBits}
+use Rattle.bits.proofs.Bit.{head-within, tail-within}
+
+-- half of a number that has one bit more
+pub half-below : (width n : ℕ) → n < 2 ^ suc width → n / 2 < 2 ^ width
+half-below width n h = omega arith
+
+pub value-toBits : (width n : ℕ) → n < 2 ^ width → value (toBits width n) ≡ n
+unfolding value toBits
+value-toBits zero n h = omega arith
+value-toBits (suc width) n h = rw (value-toBits width (n / 2) (half-below width n h)) (omega arith)
+
+pub toBits-value : (bits : List ℕ) → AllBits bits → toBits (length bits) (value bits) ≡ bits
+unfolding value toBits
+toBits-value [] all = refl
+toBits-value (bit ∷ bits) all =
+    let small = head-within 1 bit bits all in
+    let low : (bit + 2 * value bits) % 2 ≡ bit = omega arith in
+    let rest : (bit + 2 * value bits) / 2 ≡ value bits = omega arith in
+    rw (low, rest, toBits-value bits (tail-within 1 bit bits all))
+
+-- a list of bits stands for a number below two to its length
+pub value-below : (bits : List ℕ) → AllBits bits → value bits < 2 ^ length bits
+unfolding value
+value-below [] all = omega arith
+value-below (bit ∷ bits) all =
+    let small = head-within 1 bit bits all in
+    let rest = value-below bits (tail-within 1 bit bits all) in
+    omega (arith, pow-suc 2 (length bits))

@@ -1,0 +1,152 @@
+-- The laws of the clock, said of what the calls answer.
+-- Assumes nothing.
+use Prim.Native.Nat.{ℕ, zero, suc, _<_, _≤_}
+use mathlib.Core.Path.{_≡_, refl, sym, ap, _∙_}
+use mathlib.Core.Bool.{Bool, true, false, _&&_, true≢false}
+use mathlib.Core.Logic.{_↔_, _⊎_, inl, inr}
+use native.Mathlib.Omega.{arith}
+use lib.Dec.{ltb, leb, eqb, lit<}
+use borrow.Author.Tests.{ltb-false, leb-false, lt-leb}
+use Rattle.bits.proofs.Bit.{neither}
+use Rattle.refusals.specs.Answer.{Clear}
+use Rattle.refusals.proofs.Lowest.{otherwise-accepted, accepted-as}
+use Rattle.clock.specs.declared.types.Flag.{Flag}
+use Rattle.clock.specs.declared.types.Address.{Address}
+use Rattle.clock.specs.declared.types.DayFrame.{DayFrame}
+use Rattle.clock.specs.declared.types.Numbered.{Numbered}
+use Rattle.clock.specs.declared.types.Numbered.the-variants.{Number, Refused as Unnumbered}
+use Rattle.clock.specs.declared.types.Placed.{Placed}
+use Rattle.clock.specs.declared.types.Placed.the-variants.{At, Refused as Unplaced}
+use Rattle.clock.specs.Modes.{isYes, framesInSecond, framesInDay}
+use Rattle.clock.specs.Clock.{outside, skipped, shown}
+use Rattle.clock.specs.Counting.{dayOf, countOf, addressAt}
+use Rattle.clock.specs.Calls.{refusalsOf, numberRefusals, numberOf, addressOf}
+use Rattle.clock.proofs.Rate.{Rate, plain, drops}
+use Rattle.clock.proofs.Shown.{turnedAway, number-of-address, address-of-number, address-stands, never-shown, shown-at-its-number}
+
+-- a mode and a drop that can be counted in: mode 0, 1 or 2, and drop in mode 2 only
+pub record Counts (mode : ℕ) (drop : Bool) : Type 0 where
+  pub rate : Rate (framesInSecond mode) drop
+  pub day : framesInDay mode drop ≡ dayOf (framesInSecond mode) drop
+  pub nine : (skip : Bool) → (eqb mode 2 && (drop && skip)) ≡ (drop && skip)
+
+pub counts : (mode : ℕ) (drop : Bool) → ltb 2 mode ≡ false → (ltb mode 2 && drop) ≡ false → Counts mode drop
+counts zero true known allowed = absurd (true≢false allowed)
+counts zero false known allowed = record { rate = plain 24 (lit< tt); day = refl; nine = λ skip. refl }
+counts (suc zero) true known allowed = absurd (true≢false allowed)
+counts (suc zero) false known allowed = record { rate = plain 25 (lit< tt); day = refl; nine = λ skip. refl }
+counts (suc (suc zero)) true known allowed = record { rate = drops; day = refl; nine = λ skip. refl }
+counts (suc (suc zero)) false known allowed = record { rate = plain 30 (lit< tt); day = refl; nine = λ skip. refl }
+counts (suc (suc (suc n))) drop known allowed =
+    let low : suc (suc (suc n)) ≤ 2 = ltb-false 2 (suc (suc (suc n))) known in absurd (omega arith)
+
+-- what an answer holds, and that it is no refusal
+numberIn : Numbered → ℕ
+numberIn (Number n) = n .0
+numberIn (Unnumbered n) = n
+
+no-number : {n : DayFrame} (k : ℕ) → Unnumbered k ≡ Number n → ⊥
+no-number k e = let z : _≡_ {A = ℕ} 0 1 = cc in omega arith
+
+abbrev pub addressIn : Address → Placed → Address
+addressIn a (At b) = b
+addressIn a (Unplaced n) = a
+
+pub no-address : {a : Address} (k : ℕ) → Unplaced k ≡ At a → ⊥
+no-address k e = let z : _≡_ {A = ℕ} 0 1 = cc in omega arith
+
+module _ (mode : ℕ) (drop : Flag) where
+  -- an address is clear of refusals exactly where the mode counts and the clock shows it
+  pub clear-address :
+      (a : Address) → Clear (refusalsOf mode drop a)
+      → Counts mode (isYes drop) × (turnedAway (framesInSecond mode) (isYes drop) a ≡ false)
+  clear-address a clear =
+      let kind = counts mode (isYes drop) (clear .0) (clear .1 .1 .1 .0) in
+      (kind, rw (clear .1 .0) (sym (kind .nine (skipped a)) ∙ clear .1 .1 .0))
+
+  address-clear :
+      (a : Address) → ltb 2 mode ≡ false → (ltb mode 2 && isYes drop) ≡ false
+      → turnedAway (framesInSecond mode) (isYes drop) a ≡ false → Clear (refusalsOf mode drop a)
+  address-clear a known allowed stands =
+      let tests = neither (outside (framesInSecond mode) a) (isYes drop && skipped a) stands in
+      let kind = counts mode (isYes drop) known allowed in
+      (known, (tests .0, (kind .nine (skipped a) ∙ tests .1, (allowed, tt))))
+
+  -- what each call says where it accepts
+  numbered : (a : Address) (n : DayFrame) → numberOf mode drop a ≡ Number n
+      → Clear (refusalsOf mode drop a) × (countOf (framesInSecond mode) (isYes drop) a ≡ n .0)
+  unfolding numberOf numberIn
+  numbered a n e =
+      let taken = accepted-as Unnumbered _ (refusalsOf mode drop a) (Number n) no-number e in
+      (taken .0, ap numberIn (taken .1))
+
+  placed : (a : Address) (n : DayFrame) → addressOf mode drop n ≡ At a
+      → Clear (numberRefusals mode drop (n .0)) × (addressAt (framesInSecond mode) (isYes drop) (n .0) ≡ a)
+  unfolding addressOf
+  placed a n e =
+      let taken = accepted-as Unplaced _ (numberRefusals mode drop (n .0)) (At a) no-address e in
+      (taken .0, ap (addressIn a) (taken .1))
+
+  -- "Frame numbers of a day and addresses match one to one, drop-frame or not"
+  pub one-to-one : (a : Address) (n : DayFrame) → numberOf mode drop a ≡ Number n ↔ addressOf mode drop n ≡ At a
+  unfolding numberOf addressOf
+  one-to-one a n = (there, back)
+    where
+      there : numberOf mode drop a ≡ Number n → addressOf mode drop n ≡ At a
+      there e =
+          let number = numbered a n e in
+          let sound = clear-address a (number .0) in
+          let address = address-of-number (sound .0 .rate) a (sound .1) in
+          let low : n .0 < framesInDay mode (isYes drop) = rw (sound .0 .day, ← number .1) (address .0) in
+          otherwise-accepted Unplaced _ (numberRefusals mode drop (n .0))
+          (number .0 .0, (number .0 .1 .1 .1 .0, (lt-leb _ _ low, tt)))
+          ∙ ap At (rw (← number .1) (address .1))
+
+      back : addressOf mode drop n ≡ At a → numberOf mode drop a ≡ Number n
+      back e =
+          let address = placed a n e in
+          let kind = counts mode (isYes drop) (address .0 .0) (address .0 .1 .0) in
+          let low : n .0 < dayOf (framesInSecond mode) (isYes drop) = rw (← kind .day) (leb-false _ _ (address .0 .1 .1 .0)) in
+          let stands = rw (address .1) at (address-stands (kind .rate) (n .0) low) in
+          let number = rw (address .1) at (number-of-address (kind .rate) (n .0) low) in
+          otherwise-accepted Unnumbered _ (refusalsOf mode drop a) (address-clear a (address .0 .0) (address .0 .1 .0) stands)
+          ∙ ap (λ (k : ℕ). Number (record { 0 = k })) number
+
+  -- "an address is turned away exactly when the clock, stepped from midnight by the standard's rule, never shows it": in a mode
+  -- that counts, by 8 or 9
+  pub refused-exactly :
+      ltb 2 mode ≡ false → (ltb mode 2 && isYes drop) ≡ false → (a : Address)
+      → ((numberOf mode drop a ≡ Unnumbered 8) ⊎ (numberOf mode drop a ≡ Unnumbered 9))
+      ↔ ((n : ℕ) → n < framesInDay mode (isYes drop) → shown (framesInSecond mode) (isYes drop) n ≡ a → ⊥)
+  unfolding numberOf
+  refused-exactly known allowed a = (away (turnedAway fps (isYes drop) a) refl, by-number (turnedAway fps (isYes drop) a) refl)
+    where
+      fps : ℕ
+      fps = framesInSecond mode
+
+      kind : Counts mode (isYes drop)
+      kind = counts mode (isYes drop) known allowed
+
+      Turned : Type 0
+      Turned = (numberOf mode drop a ≡ Unnumbered 8) ⊎ (numberOf mode drop a ≡ Unnumbered 9)
+
+      Never : Type 0
+      Never = (n : ℕ) → n < framesInDay mode (isYes drop) → shown fps (isYes drop) n ≡ a → ⊥
+
+      accepted : turnedAway fps (isYes drop) a ≡ false → numberOf mode drop a ≡ Number (record { 0 = countOf fps (isYes drop) a })
+      accepted stands = otherwise-accepted Unnumbered _ (refusalsOf mode drop a) (address-clear a known allowed stands)
+
+      away : (t : Bool) → turnedAway fps (isYes drop) a ≡ t → Turned → Never
+      away true e turned n low same = never-shown (kind .rate) a e n same
+      away false e (inl eight) n low same = no-number 8 (sym eight ∙ accepted e)
+      away false e (inr nine) n low same = no-number 9 (sym nine ∙ accepted e)
+
+      by-number : (t : Bool) → turnedAway fps (isYes drop) a ≡ t → Never → Turned
+      by-number true e never = which (outside fps a) refl
+        where
+          which : (o : Bool) → outside fps a ≡ o → Turned
+          which true o = inl (rw (known, o))
+          which false o = inr (rw (known, o, kind .nine (skipped a) ∙ (rw o at e)))
+      by-number false e never =
+          let number = address-of-number (kind .rate) a e in
+          absurd (never (countOf fps (isYes drop) a) (rw (kind .day) (number .0)) (shown-at-its-number (kind .rate) a e))

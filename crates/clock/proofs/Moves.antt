@@ -1,0 +1,114 @@
+-- The distance and the sum, said of what the calls answer.
+-- Assumes nothing.
+use Prim.Native.Nat.{ℕ, suc, _/_, _%_, _<_}
+use mathlib.Core.Path.{_≡_, refl, sym, ap, _∙_}
+use mathlib.Core.Bool.{Bool, true, false, _&&_, _||_, true≢false}
+use native.Mathlib.Omega.{arith}
+use lib.Dec.{eqb}
+use lib.IntN.{ℤ, pos, negsuc, subℕ}
+use lib.Signed.{_≤ℤ_, _<ℤ_}
+use Rattle.bits.proofs.Bit.{neither}
+use Rattle.refusals.specs.Answer.{Clear}
+use Rattle.refusals.proofs.Lowest.{otherwise-accepted, accepted-as}
+use Rattle.clock.specs.declared.types.Flag.{Flag}
+use Rattle.clock.specs.declared.types.Address.{Address}
+use Rattle.clock.specs.declared.types.Placed.the-variants.{At, Refused as Unplaced}
+use Rattle.clock.specs.declared.types.Span.{Span}
+use Rattle.clock.specs.declared.types.Span.the-variants.{Frames, Refused as Apart}
+use Rattle.clock.specs.Modes.{isYes, framesInSecond, framesInDay}
+use Rattle.clock.specs.Clock.{outside, skipped, stepped}
+use Rattle.clock.specs.Counting.{dayOf, countOf, addressAt, distanceOf, sumOf}
+use Rattle.clock.specs.Calls.{refusalsOf, refusalsOfTwo, spanOf, plusOf}
+use Rattle.clock.proofs.Shown.{address-of-number, stepped-is}
+use Rattle.clock.proofs.Round.{Brought, brought, arrives, in-range, sum-below, back-and-on}
+use Rattle.clock.proofs.Sizes.{even-day, some-day}
+use Rattle.clock.proofs.Answers.{Counts, clear-address, addressIn, no-address}
+
+no-span : {z : ℤ} (k : ℕ) → Apart k ≡ Frames z → ⊥
+no-span k e = let z : _≡_ {A = ℕ} 0 1 = cc in omega arith
+
+framesIn : ℤ → Span → ℤ
+framesIn z (Frames y) = y
+framesIn z (Apart n) = z
+
+-- where two addresses together are not skipped, neither is
+neither-skipped : (p q s t : Bool) → (p && (q && (s || t))) ≡ false → ((p && (q && s)) ≡ false) × ((p && (q && t)) ≡ false)
+neither-skipped true true s t e = neither s t e
+neither-skipped true false s t e = (refl, refl)
+neither-skipped false q s t e = (refl, refl)
+
+module _ (mode : ℕ) (drop : Flag) where
+  -- the mode's rate and day, an address's number and a number's address
+  abbrev fps : ℕ
+  fps = framesInSecond mode
+
+  abbrev day : ℕ
+  day = framesInDay mode (isYes drop)
+
+  abbrev number : Address → ℕ
+  number a = countOf fps (isYes drop) a
+
+  abbrev address : ℕ → Address
+  address n = addressAt fps (isYes drop) n
+
+  -- an address that is clear of refusals is the address of its number, which is below the day
+  sound : (a : Address) → Clear (refusalsOf mode drop a) → Counts mode (isYes drop) × (number a < day) × (address (number a) ≡ a)
+  sound a clear =
+      let shown = clear-address mode drop a clear in
+      let found = address-of-number (shown .0 .rate) a (shown .1) in
+      (shown .0, rw (shown .0 .day) (found .0), found .1)
+
+  -- the distance is measured between two addresses that are both clear of refusals
+  measured :
+      (from to : Address) (z : ℤ) → spanOf mode drop from to ≡ Frames z
+      → Clear (refusalsOf mode drop from) × Clear (refusalsOf mode drop to) × Brought day (number from) (number to) z
+  unfolding spanOf framesIn
+  measured from to z e =
+      let taken = accepted-as Apart _ (refusalsOfTwo mode drop from to) (Frames z) no-span e in
+      let clear = taken .0 in
+      let out = neither (outside fps from) (outside fps to) (clear .1 .0) in
+      let skip = neither-skipped (eqb mode 2) (isYes drop) (skipped from) (skipped to) (clear .1 .1 .0) in
+      let first : Clear (refusalsOf mode drop from) = (clear .0, (out .0, (skip .0, clear .1 .1 .1))) in
+      let second : Clear (refusalsOf mode drop to) = (clear .0, (out .1, (skip .1, clear .1 .1 .1))) in
+      let within = brought day (number from) (number to) (even-day mode (isYes drop)) (sound from first .1) (sound to second .1) in
+      (first, second, rw (ap (framesIn z) (taken .1)) at within)
+
+  -- "Adding the distance gives the second address back"
+  pub adding-the-distance : (from to : Address) (z : ℤ) → spanOf mode drop from to ≡ Frames z → plusOf mode drop from z ≡ At to
+  unfolding plusOf
+  adding-the-distance from to z e =
+      let taken = measured from to z e in
+      let target = sound to (taken .1) in
+      otherwise-accepted Unplaced _ (refusalsOf mode drop from) (taken .0)
+      ∙ ap At (rw (arrives (target .1) (taken .2)) (target .2))
+
+  -- "into the range from minus half a day up to, and not including, plus half a day"
+  pub distance-in-range : (from to : Address) (z : ℤ) → spanOf mode drop from to ≡ Frames z → (subℕ 0 (day / 2) ≤ℤ z) × (z <ℤ pos (day / 2))
+  distance-in-range from to z e = in-range (measured from to z e .2)
+
+  -- what a sum says where it is accepted
+  moved : (a b : Address) (z : ℤ) → plusOf mode drop a z ≡ At b → Clear (refusalsOf mode drop a) × (address (sumOf day (number a) z) ≡ b)
+  unfolding plusOf
+  moved a b z e =
+      let taken = accepted-as Unplaced _ (refusalsOf mode drop a) (At b) no-address e in
+      (taken .0, ap (addressIn b) (taken .1))
+
+  -- adding a count is as many clock steps on, round midnight
+  pub added-is-stepped : (a b : Address) (k : ℕ) → plusOf mode drop a (pos k) ≡ At b → stepped fps (isYes drop) k a ≡ b
+  unfolding sumOf
+  added-is-stepped a b k e =
+      let sum = moved a b (pos k) e in
+      let start = sound a (sum .0) in
+      let on = stepped-is (start .0 .rate) k (number a) (rw (← start .0 .day) (start .1)) in
+      rw (start .2) at on ∙ rw (← start .0 .day) (sum .1)
+
+  -- adding a count below 0 is undone by as many clock steps
+  pub taken-off-is-stepped : (a b : Address) (k : ℕ) → plusOf mode drop a (negsuc k) ≡ At b → stepped fps (isYes drop) (suc k) b ≡ a
+  unfolding sumOf
+  taken-off-is-stepped a b k e =
+      let sum = moved a b (negsuc k) e in
+      let start = sound a (sum .0) in
+      let m = sumOf day (number a) (negsuc k) in
+      let low : m < dayOf fps (isYes drop) = rw (← start .0 .day) (sum-below day (some-day mode day (isYes drop) refl) (number a) (negsuc k)) in
+      let on = stepped-is (start .0 .rate) (suc k) m low in
+      rw (sum .1, ← start .0 .day, back-and-on day (number a) k (start .1), start .2) at on

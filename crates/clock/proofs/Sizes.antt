@@ -1,0 +1,79 @@
+-- How large the clock's numbers get: what each sum and product of the code needs to fit its type.
+-- Assumes nothing.
+use Prim.Native.Nat.{ℕ, _+_, _-_, _*_, _/_, _%_, _≤_, _<_}
+use mathlib.Core.Path.{_≡_, refl}
+use mathlib.Core.Bool.{Bool, true, false}
+use native.Mathlib.Omega.{arith}
+use native.Mathlib.Nat.{mul-le-mul-left, div-lt-iff-lt-mul}
+use lib.Dec.{eqb, lit<, lit≤}
+use Rattle.clock.specs.declared.types.Address.{Address}
+use Rattle.clock.specs.Modes.{byMode, framesInSecond, framesInDay}
+use Rattle.clock.specs.Counting.{minutesOf, placeOf, countOf, placeAt}
+
+-- what is true of each of the three is true of the mode's own
+pub of-the-mode : (P : ℕ → Type 0) (mode : ℕ) {x y z : ℕ} → P x → P y → P z → P (byMode mode x y z)
+of-the-mode P mode {x} {y} {z} px py pz = go (eqb mode 0) refl (eqb mode 1) refl
+  where
+    go : (s : Bool) → eqb mode 0 ≡ s → (t : Bool) → eqb mode 1 ≡ t → P (byMode mode x y z)
+    go true s t′ t = rw s px
+    go false s true t = rw (s, t) py
+    go false s false t = rw (s, t) pz
+
+pub rate-small : (mode : ℕ) → framesInSecond mode ≤ 30
+rate-small mode = of-the-mode (λ (x : ℕ). x ≤ 30) mode (lit≤ tt) (lit≤ tt) (lit≤ tt)
+
+pub some-rate : (mode : ℕ) → 0 < framesInSecond mode
+some-rate mode = of-the-mode (λ (x : ℕ). 0 < x) mode (lit< tt) (lit< tt) (lit< tt)
+
+-- an address whose fields are bytes
+pub record Bytes (a : Address) : Type 0 where
+  pub hours : a .hours < 256
+  pub minutes : a .minutes < 256
+  pub seconds : a .seconds < 256
+  pub frames : a .frames .0 < 256
+
+pub place-small : (fps : ℕ) (a : Address) → Bytes a → fps ≤ 30 → placeOf fps a < 30000000
+place-small fps a b low = omega (arith, mul-le-mul-left (60 * minutesOf a + a .seconds) low)
+
+-- what drop-frame skips is less than the place
+pub skips-fit : (fps : ℕ) (a : Address) → 0 < fps → 2 * (minutesOf a - minutesOf a / 10) ≤ placeOf fps a
+skips-fit fps a some = omega (arith, mul-le-mul-left (60 * minutesOf a + a .seconds) some)
+
+-- the same of a count that is known to be an address's, and of a day that is known to be a mode's
+pub count-small :
+    (mode n : ℕ) (drop : Bool) (a : Address) → n ≡ countOf (framesInSecond mode) drop a
+    → a .hours < 256 → a .minutes < 256 → a .seconds < 256 → a .frames .0 < 256 → n < 30000000
+unfolding countOf
+count-small mode n drop a e h m s f =
+    let bytes : Bytes a = record { hours = h; minutes = m; seconds = s; frames = f } in
+    rw e (omega (arith, place-small (framesInSecond mode) a bytes (rate-small mode)))
+
+-- what is true of each of the four days is true of the mode's own
+of-the-day : (P : ℕ → Type 0) (mode : ℕ) (drop : Bool) → P 2073600 → P 2160000 → P 2589408 → P 2592000 → P (framesInDay mode drop)
+of-the-day P mode true at24 at25 at30drop at30 = of-the-mode P mode at24 at25 at30drop
+of-the-day P mode false at24 at25 at30drop at30 = of-the-mode P mode at24 at25 at30
+
+pub even-day : (mode : ℕ) (drop : Bool) → framesInDay mode drop % 2 ≡ 0
+even-day mode drop = of-the-day (λ (x : ℕ). x % 2 ≡ 0) mode drop refl refl refl refl
+
+module _ (mode day : ℕ) (drop : Bool) (whole : day ≡ framesInDay mode drop) where
+  pub day-small : day ≤ 2592000
+  day-small = rw whole (of-the-day (λ (x : ℕ). x ≤ 2592000) mode drop (lit≤ tt) (lit≤ tt) (lit≤ tt) (lit≤ tt))
+
+  pub some-day : 0 < day
+  some-day = rw whole (of-the-day (λ (x : ℕ). 0 < x) mode drop (lit< tt) (lit< tt) (lit< tt) (lit< tt))
+
+-- every mode counts at least 24 frames a second, so a number below 2,592,000 shows fewer than 256 hours
+pub rate-large : (mode : ℕ) → 24 ≤ framesInSecond mode
+rate-large mode = of-the-mode (λ (x : ℕ). 24 ≤ x) mode (lit≤ tt) (lit≤ tt) (lit≤ tt)
+
+pub placeAt-small : (drop : Bool) (n : ℕ) → n < 2592000 → placeAt drop n < 2600000
+placeAt-small true n h = omega arith
+placeAt-small false n h = omega arith
+
+pub hours-small : (fps p : ℕ) → 24 ≤ fps → p < 2600000 → p / fps / 60 / 60 < 256
+hours-small fps p h low =
+    let some : 0 < fps = omega arith in
+    let within : p < 110000 * fps = omega (arith, mul-le-mul-left 110000 h) in
+    let second : p / fps < 110000 = div-lt-iff-lt-mul some .1 within in
+    omega arith

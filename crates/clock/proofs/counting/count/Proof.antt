@@ -1,0 +1,106 @@
+-- `clock::counting::count` meets its contract: the place of the address at the mode's rate, less what drop-frame skips.
+-- Assumes nothing.
+use mathlib.Core.Path.{_≡_, sym}
+use mathlib.Core.Bool.{Bool, true, false}
+use Prim.Native.Nat.{ℕ, _+_, _-_, _*_, _/_, _≤_, _<_}
+use native.Mathlib.Nat.{sub-zero}
+use native.Mathlib.Omega.{arith}
+use borrow.Author.Needs.{needs}
+use Rattle.clock.specs.declared.types.Address.{Address}
+use Rattle.clock.specs.Modes.{framesInSecond}
+use Rattle.clock.specs.Counting.{minutesOf, placeOf, countOf}
+use Rattle.clock.proofs.Sizes.{Bytes, some-rate, rate-small, place-small, skips-fit}
+use Rattle.clock.proofs.counting.count.Statement.{statement}
+use Rattle.clock.proofs.counting.count.Tie as tie
+
+module _ (mode fps : ℕ) (drop : Bool) (a : Address) (rate : fps ≡ framesInSecond mode) where
+  dropped : drop ≡ true → placeOf fps a - 2 * (minutesOf a - minutesOf a / 10) ≡ countOf (framesInSecond mode) drop a
+  unfolding countOf
+  dropped d = rw (← rate, d)
+
+  whole : drop ≡ false → placeOf fps a ≡ countOf (framesInSecond mode) drop a
+  unfolding countOf
+  whole d = rw (← rate, d) (sym (sub-zero (placeOf fps a)))
+
+  skips : 2 * (minutesOf a - minutesOf a / 10) ≤ placeOf fps a
+  skips = skips-fit fps a (rw rate (some-rate mode))
+
+  small : Bytes a → placeOf fps a < 30000000
+  small b = place-small fps a b (rw rate (rate-small mode))
+
+frames-in-second-requires : tie.Need-frames-in-second-requires
+frames-in-second-requires c κs = search needs
+
+cast-hours : tie.Need-cast-hours
+cast-hours c = search needs
+
+cast-minutes : tie.Need-cast-minutes
+cast-minutes c = search needs
+
+cast-seconds : tie.Need-cast-seconds
+cast-seconds c = search needs
+
+cast-frames : tie.Need-cast-frames
+cast-frames c = search needs
+
+mul-begun : tie.Need-mul-begun
+mul-begun c = search needs
+
+add-begun : tie.Need-add-begun
+add-begun c = search needs
+
+mul-place : tie.Need-mul-place
+mul-place c = search needs
+
+add-place : tie.Need-add-place
+add-place c = search needs
+
+-- the whole place is below 30,000,000
+fits : (c : tie.After-struct-known4) → placeOf (c .before .before .before .before .frames-in-second .result) (c .before .before .before .before .before .args .a) < 30000000
+fits c =
+    let args = c .before .before .before .before .before .args in
+    let call = c .before .before .before .before .frames-in-second in
+    small (args .mode) (call .result) (args .drop) (args .a) (call .ensures)
+    (record { hours = search needs; minutes = search needs; seconds = search needs; frames = search needs })
+
+mul-place-2 : tie.Need-mul-place-2
+mul-place-2 c = omega (arith, fits c)
+
+add-place-2 : tie.Need-add-place-2
+add-place-2 c = omega (arith, fits c)
+
+sub-result : tie.Need-sub-result
+sub-result c = search needs
+
+mul-result : tie.Need-mul-result
+mul-result c = search needs
+
+sub-result-2 : tie.Need-sub-result-2
+sub-result-2 c = search skips
+
+returns : tie.Need-returns
+returns c = search dropped
+
+returns-2 : tie.Need-returns-2
+returns-2 c = search whole
+
+pub count-spec : {M : Type 1} → statement M
+count-spec =
+    tie.close
+    (tie.spec
+    frames-in-second-requires
+    cast-hours
+    cast-minutes
+    cast-seconds
+    cast-frames
+    mul-begun
+    add-begun
+    mul-place
+    add-place
+    mul-place-2
+    add-place-2
+    sub-result
+    mul-result
+    sub-result-2
+    returns
+    returns-2)

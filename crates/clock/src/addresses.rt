@@ -1,0 +1,142 @@
+// To addresses: the address of a frame number, the address that clock fields make, and an address plus a signed count.
+ghost use mathlib.Core.Path.{_≡_};
+ghost use mathlib.Core.Bool.{true, false};
+ghost use Prim.Native.Nat.{_<_, _≤_};
+ghost use lib.IntN.{pos, negsuc};
+ghost use lib.Signed.{nonNeg};
+ghost use Rattle.clock.specs.Modes.{framesInSecond};
+ghost use Rattle.clock.specs.Clock.{showing};
+ghost use Rattle.clock.specs.Counting.{placeAt, addressAt, sumOf};
+ghost use Rattle.clock.specs.Calls.{addressOf, fieldsOf, plusOf};
+use crate::counting::count;
+use crate::modes::frames_in_day;
+use crate::modes::frames_in_second;
+use crate::modes::is_yes;
+use crate::modes::judge;
+use crate::types::Address;
+use crate::types::DayFrame;
+use crate::types::Flag;
+use crate::types::Placed;
+use crate::types::SecondFrame;
+use crate::types::Verdict;
+
+// The place of a number on a clock that skips nothing.
+fn place(drop: bool, number: u32) -> u32
+    requires { ⌜ number < 2592000 ⌝ }
+    ensures { λ r. ⌜ r ≡ placeAt drop number ⌝ }
+{
+    if !drop {
+        return number;
+    }
+    let skipped = 18 * (number / 17982);
+    let rest = number % 17982;
+    if rest < 2 {
+        return number + skipped;
+    }
+    number + (skipped + 2 * ((rest - 2) / 1798))
+}
+
+// The address of a number of the day.
+fn address_at(mode: u8, drop: bool, number: u32) -> Address
+    requires { ⌜ number < 2592000 ⌝ }
+    ensures { λ r. ⌜ r ≡ addressAt (framesInSecond mode) drop number ⌝ }
+{
+    let fps = frames_in_second(mode);
+    let place = place(drop, number);
+    let second = place / fps;
+    let minute = second / 60;
+    let frames = (place % fps) as u8;
+    let seconds = (second % 60) as u8;
+    let minutes = (minute % 60) as u8;
+    let hours = (minute / 60) as u8;
+    Address {
+        hours,
+        minutes,
+        seconds,
+        frames: SecondFrame(frames),
+    }
+}
+
+pub fn address_of(mode: u8, drop: Flag, number: DayFrame) -> Placed
+    ensures { λ r. ⌜ r ≡ addressOf mode drop number ⌝ }
+{
+    let dropped = is_yes(drop);
+    let n = number.0;
+    let unknown = 2 < mode;
+    let unused = (mode < 2) & dropped;
+    if unknown {
+        return Placed::Refused(refusals::MODE_ABOVE_2);
+    }
+    if unused {
+        return Placed::Refused(refusals::UNUSED_BIT_SET);
+    }
+    if frames_in_day(mode, dropped) <= n {
+        return Placed::Refused(refusals::NUMBER_PAST_THE_DAY);
+    }
+    Placed::At(address_at(mode, dropped, n))
+}
+
+pub fn address_from(
+    mode: u8,
+    drop: Flag,
+    hours: u8,
+    minutes: u8,
+    seconds: u8,
+    frames: SecondFrame,
+) -> Placed
+    ensures { λ r. ⌜ r ≡ fieldsOf mode drop (showing hours minutes seconds (frames .0)) ⌝ }
+{
+    let fields = Address {
+        hours,
+        minutes,
+        seconds,
+        frames,
+    };
+    let found = judge(mode, drop, fields);
+    match found {
+        Verdict::Refused(number) => Placed::Refused(number),
+        Verdict::Sound => Placed::At(fields),
+    }
+}
+
+// A count that is not below 0, and one that is: how far on, and one less than how far back.
+fn on_by(frames: i32) -> u32
+    requires { ⌜ nonNeg frames ≡ true ⌝ }
+    ensures { λ r. ⌜ frames ≡ pos r ⌝ }
+{
+    frames as u32
+}
+
+fn back_by(frames: i32) -> u32
+    requires { ⌜ nonNeg frames ≡ false ⌝ }
+    ensures { λ r. ⌜ frames ≡ negsuc r ⌝ }
+{
+    !frames as u32
+}
+
+// A number of the day plus a signed count, round midnight either way.
+fn sum(day: u32, number: u32, frames: i32) -> u32
+    requires { ⌜ (0 < day) × ((day ≤ 2592000) × (number < 30000000)) ⌝ }
+    ensures { λ r. ⌜ r ≡ sumOf day number frames ⌝ }
+{
+    if frames < 0 {
+        let less = back_by(frames);
+        return (number + (day - (less + 1) % day)) % day;
+    }
+    (number + on_by(frames)) % day
+}
+
+pub fn add(mode: u8, drop: Flag, address: Address, frames: i32) -> Placed
+    ensures { λ r. ⌜ r ≡ plusOf mode drop address frames ⌝ }
+{
+    let found = judge(mode, drop, address);
+    match found {
+        Verdict::Refused(number) => Placed::Refused(number),
+        Verdict::Sound => {
+            let dropped = is_yes(drop);
+            let day = frames_in_day(mode, dropped);
+            let number = sum(day, count(mode, dropped, address), frames);
+            Placed::At(address_at(mode, dropped, number))
+        }
+    }
+}

@@ -1,0 +1,23 @@
+// The arithmetic of the day: an address's frame number, which the calls give out once the address has been found sound.
+ghost use mathlib.Core.Path.{_≡_};
+ghost use Rattle.clock.specs.Modes.{framesInSecond};
+ghost use Rattle.clock.specs.Counting.{countOf};
+use crate::modes::frames_in_second;
+use crate::types::Address;
+
+// The frame number of an address: its place on a clock that skips nothing, less two for each minute begun but every tenth.
+pub fn count(mode: u8, drop: bool, a: Address) -> u32
+    ensures { λ r. ⌜ r ≡ countOf (framesInSecond mode) drop a ⌝ }
+{
+    let fps = frames_in_second(mode);
+    let hours = a.hours as u32;
+    let minutes = a.minutes as u32;
+    let seconds = a.seconds as u32;
+    let frames = a.frames.0 as u32;
+    let begun = 60 * hours + minutes;
+    let place = (60 * begun + seconds) * fps + frames;
+    if drop {
+        return place - 2 * (begun - begun / 10);
+    }
+    place
+}

@@ -1,0 +1,92 @@
+// The four counting modes: each a kind with its own frames in a second and in a day, and two constructors of an address,
+// from a frame number of the day and from clock fields.
+ghost use mathlib.Core.Path.{_≡_};
+ghost use Rattle.clock.specs.declared.types.Flag.the-variants.{No, Yes};
+ghost use Rattle.clock.specs.Clock.{showing};
+ghost use Rattle.clock.specs.Calls.{addressOf, fieldsOf};
+use crate::addresses::address_from;
+use crate::addresses::address_of;
+use crate::types::DayFrame;
+use crate::types::Flag;
+use crate::types::Placed;
+use crate::types::SecondFrame;
+
+pub struct Frames24;
+
+pub struct Frames25;
+
+pub struct Frames30;
+
+pub struct Frames30Drop;
+
+impl Frames24 {
+    pub const IN_SECOND: u32 = 24;
+
+    pub const IN_DAY: u32 = 2_073_600;
+
+    pub fn from_number(number: DayFrame) -> Placed
+        ensures { λ r. ⌜ r ≡ addressOf 0 No number ⌝ }
+    {
+        address_of(0, Flag::No, number)
+    }
+
+    pub fn from_fields(hours: u8, minutes: u8, seconds: u8, frames: SecondFrame) -> Placed
+        ensures { λ r. ⌜ r ≡ fieldsOf 0 No (showing hours minutes seconds (frames .0)) ⌝ }
+    {
+        address_from(0, Flag::No, hours, minutes, seconds, frames)
+    }
+}
+
+impl Frames25 {
+    pub const IN_SECOND: u32 = 25;
+
+    pub const IN_DAY: u32 = 2_160_000;
+
+    pub fn from_number(number: DayFrame) -> Placed
+        ensures { λ r. ⌜ r ≡ addressOf 1 No number ⌝ }
+    {
+        address_of(1, Flag::No, number)
+    }
+
+    pub fn from_fields(hours: u8, minutes: u8, seconds: u8, frames: SecondFrame) -> Placed
+        ensures { λ r. ⌜ r ≡ fieldsOf 1 No (showing hours minutes seconds (frames .0)) ⌝ }
+    {
+        address_from(1, Flag::No, hours, minutes, seconds, frames)
+    }
+}
+
+impl Frames30 {
+    pub const IN_SECOND: u32 = 30;
+
+    pub const IN_DAY: u32 = 2_592_000;
+
+    pub fn from_number(number: DayFrame) -> Placed
+        ensures { λ r. ⌜ r ≡ addressOf 2 No number ⌝ }
+    {
+        address_of(2, Flag::No, number)
+    }
+
+    pub fn from_fields(hours: u8, minutes: u8, seconds: u8, frames: SecondFrame) -> Placed
+        ensures { λ r. ⌜ r ≡ fieldsOf 2 No (showing hours minutes seconds (frames .0)) ⌝ }
+    {
+        address_from(2, Flag::No, hours, minutes, seconds, frames)
+    }
+}
+
+impl Frames30Drop {
+    pub const IN_SECOND: u32 = Frames30::IN_SECOND;
+
+    pub const IN_DAY: u32 = 2_589_408;
+
+    pub fn from_number(number: DayFrame) -> Placed
+        ensures { λ r. ⌜ r ≡ addressOf 2 Yes number ⌝ }
+    {
+        address_of(2, Flag::Yes, number)
+    }
+
+    pub fn from_fields(hours: u8, minutes: u8, seconds: u8, frames: SecondFrame) -> Placed
+        ensures { λ r. ⌜ r ≡ fieldsOf 2 Yes (showing hours minutes seconds (frames .0)) ⌝ }
+    {
+        address_from(2, Flag::Yes, hours, minutes, seconds, frames)
+    }
+}

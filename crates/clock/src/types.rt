@@ -1,0 +1,39 @@
+// A yes or a no of a record or a call.
+pub enum Flag {
+    No,
+    Yes,
+}
+
+// A frame number within a second, and a frame number of the day: kinds that must not be mixed by accident.
+pub struct SecondFrame(pub u8);
+
+pub struct DayFrame(pub u32);
+
+pub struct Address {
+    pub hours: u8,
+    pub minutes: u8,
+    pub seconds: u8,
+    pub frames: SecondFrame,
+}
+
+// Whether an address, or two, can be counted with.
+pub enum Verdict {
+    Sound,
+    Refused(u8),
+}
+
+pub enum Numbered {
+    Number(DayFrame),
+    Refused(u8),
+}
+
+pub enum Placed {
+    At(Address),
+    Refused(u8),
+}
+
+// The signed count of frames from one address to another.
+pub enum Span {
+    Frames(i32),
+    Refused(u8),
+}

@@ -1,0 +1,63 @@
+-- "The lowest that applies is given. No refusal is given otherwise": of a list in rising order the first that applies is the lowest.
+-- Assumes nothing.
+use Prim.Native.Nat.{ℕ, _≤_, _<_}
+use mathlib.Core.Path.{_≡_, refl, _∙_, sym}
+use mathlib.Core.Bool.{Bool, true, false, cond, false≢true}
+use mathlib.Core.List.{List, [], _∷_}
+use mathlib.Core.Logic.{_⊎_, inl, inr}
+use native.Mathlib.Omega.{arith}
+use Rattle.refusals.specs.Answer.{Refusal, answer, Applies, Clear, Above, Rising}
+
+-- a number that applies is above whatever the whole list is above
+above : {n m : ℕ} (rows : List Refusal) → Above n rows → Applies m rows → n < m
+above (row ∷ rows) up (inl a) = omega arith
+above (row ∷ rows) up (inr a) = above rows (up .1) a
+
+module _ {A : Type 0} (refused : ℕ → A) (accepted : A) where
+  -- the number m is the list's answer, applies, and is at most n
+  abbrev pub Given : List Refusal → ℕ → Type 0
+  Given rows n = (m : ℕ) × (answer refused rows accepted ≡ refused m) × (m ≤ n) × Applies m rows
+
+  -- the number given applies, and none that applies is lower
+  pub lowest-is-given : (rows : List Refusal) → Rising rows → (n : ℕ) → Applies n rows → Given rows n
+  lowest-is-given (row ∷ rows) up n a = go (row .applies) refl a (lowest-is-given rows (up .1) n)
+    where
+      go : (t : Bool) → row .applies ≡ t → Applies n (row ∷ rows) → (Applies n rows → Given rows n) → Given (row ∷ rows) n
+      go true e (inl b) rest = (row .number, rw e, omega arith, inl (refl, e))
+      go true e (inr b) rest = (row .number, rw e, (let h : row .number < n = above rows (up .0) b in omega arith), inl (refl, e))
+      go false e (inl b) rest = absurd (false≢true (sym e ∙ b .1))
+      go false e (inr b) rest = let g = rest b in (g .0, rw e (g .1), g .2, inr (g .3))
+
+  -- "No refusal is given otherwise": where none applies, what is accepted is the answer, and only there
+  pub otherwise-accepted : (rows : List Refusal) → Clear rows → answer refused rows accepted ≡ accepted
+  otherwise-accepted [] clear = refl
+  otherwise-accepted (row ∷ rows) clear = rw (clear .0) (otherwise-accepted rows (clear .1))
+
+  pub accepted-only : (rows : List Refusal) → ((n : ℕ) → answer refused rows accepted ≡ refused n → ⊥) → Clear rows
+  accepted-only [] none = tt
+  accepted-only (row ∷ rows) none = go (row .applies) refl (accepted-only rows)
+    where
+      go : (t : Bool) → row .applies ≡ t → (((n : ℕ) → answer refused rows accepted ≡ refused n → ⊥) → Clear rows) → Clear (row ∷ rows)
+      go true e rest = absurd (none (row .number) (rw e))
+      go false e rest = (e, rest (λ n same. none n (rw e same)))
+
+  -- an answer that is no refusal is what is accepted
+  pub accepted-as :
+      (rows : List Refusal) (given : A) → ((n : ℕ) → refused n ≡ given → ⊥) → answer refused rows accepted ≡ given
+      → Clear rows × (accepted ≡ given)
+  accepted-as rows given apart e =
+      let clear = accepted-only rows (λ n same. apart n (sym same ∙ e)) in
+      (clear, sym (otherwise-accepted rows clear) ∙ e)
+
+-- an answer that is carried over to another kind of answer lists the same refusals
+pub carried :
+    {A B : Type 0} (f : A → B) (refused : ℕ → A) (accepted : A) (rows : List Refusal)
+    → f (answer refused rows accepted) ≡ answer (λ (n : ℕ). f (refused n)) rows (f accepted)
+carried f refused accepted [] = refl
+carried f refused accepted (row ∷ rows) = go (row .applies) (carried f refused accepted rows)
+  where
+    go : (t : Bool) → f (answer refused rows accepted) ≡ answer (λ (n : ℕ). f (refused n)) rows (f accepted)
+        → f (cond t (refused (row .number)) (answer refused rows accepted))
+        ≡ cond t (f (refused (row .number))) (answer (λ (n : ℕ). f (refused n)) rows (f accepted))
+    go true rest = refl
+    go false rest = rest

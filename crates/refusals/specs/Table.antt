@@ -1,0 +1,59 @@
+-- The numbers for what is turned away: document 01's table, in its order and words.
+-- Assumes nothing.
+use Prim.Native.Nat.{ℕ}
+
+-- read: not exactly 80, 90 or 23 elements
+abbrev pub wrong-length : ℕ
+wrong-length = 1
+
+-- mode above 2
+abbrev pub mode-above-2 : ℕ
+mode-above-2 = 2
+
+-- read or fed: element above 1 (bits) or above 1,023 (words)
+abbrev pub element-too-high : ℕ
+element-too-high = 3
+
+-- sync word, a sync pair, or one of the first six packet words is wrong
+abbrev pub wrong-sync : ℕ
+wrong-sync = 4
+
+-- odd zeros (LTC), CRC, b8 or b9 of a data word, packet checksum word
+abbrev pub wrong-check : ℕ
+wrong-check = 5
+
+-- b0 to b2 of a data word not zero
+abbrev pub low-bits-set : ℕ
+low-bits-set = 6
+
+-- payload type above 2
+abbrev pub type-above-2 : ℕ
+type-above-2 = 7
+
+-- digit above 9 in a units field, or hour, minute, second, frame outside the clock; in a record, a group above 15
+abbrev pub outside-the-clock : ℕ
+outside-the-clock = 8
+
+-- mode 2, drop set, one of the skipped addresses
+abbrev pub skipped-address : ℕ
+skipped-address = 9
+
+-- unused bit set (in a record: colour in mode 0), or drop asked for in mode 0 or 1
+abbrev pub unused-bit-set : ℕ
+unused-bit-set = 10
+
+-- LTC write of a record with mark 1
+abbrev pub mark-set : ℕ
+mark-set = 11
+
+-- write: fewer than 80, 90 or 23 elements from the start given, or start past the end
+abbrev pub no-room : ℕ
+no-room = 12
+
+-- reader state that no feeding reaches
+abbrev pub state-not-reached : ℕ
+state-not-reached = 13
+
+-- frame number not below the day's count
+abbrev pub number-past-the-day : ℕ
+number-past-the-day = 14

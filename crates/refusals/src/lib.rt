@@ -1,0 +1,30 @@
+// The numbers for what is turned away: document 01's table, in its order and words.
+
+// Read: not exactly 80, 90 or 23 elements.
+pub const WRONG_LENGTH: u8 = 1;
+// Mode above 2.
+pub const MODE_ABOVE_2: u8 = 2;
+// Read or fed: element above 1 (bits) or above 1,023 (words).
+pub const ELEMENT_TOO_HIGH: u8 = 3;
+// Sync word, a sync pair, or one of the first six packet words is wrong.
+pub const WRONG_SYNC: u8 = 4;
+// Odd zeros (LTC), CRC, b8 or b9 of a data word, packet checksum word.
+pub const WRONG_CHECK: u8 = 5;
+// b0 to b2 of a data word not zero.
+pub const LOW_BITS_SET: u8 = 6;
+// Payload type above 2.
+pub const TYPE_ABOVE_2: u8 = 7;
+// Digit above 9 in a units field, or hour, minute, second, frame outside the clock; in a record, a group above 15.
+pub const OUTSIDE_THE_CLOCK: u8 = 8;
+// Mode 2, drop set, one of the skipped addresses.
+pub const SKIPPED_ADDRESS: u8 = 9;
+// Unused bit set (in a record: colour in mode 0), or drop asked for in mode 0 or 1.
+pub const UNUSED_BIT_SET: u8 = 10;
+// LTC write of a record with mark 1.
+pub const MARK_SET: u8 = 11;
+// Write: fewer than 80, 90 or 23 elements from the start given, or start past the end.
+pub const NO_ROOM: u8 = 12;
+// Reader state that no feeding reaches.
+pub const STATE_NOT_REACHED: u8 = 13;
+// Frame number not below the day's count.
+pub const NUMBER_PAST_THE_DAY: u8 = 14;
