@@ -2,18 +2,14 @@
 -- Assumes nothing.
 use Prim.Native.Nat.{ℕ, zero, suc, _/_, _%_, _<_, _≤_}
 use mathlib.Core.Path.{_≡_, refl, ap}
-use mathlib.Core.Bool.{Bool, true, false, _||_, true≢false}
+use mathlib.Core.Bool.{false}
 use mathlib.Core.List.{List, [], _∷_, _++_}
 use native.Mathlib.Omega.{arith}
 use lib.Dec.{ltb}
 use lib.ListN.{length}
 use borrow.Author.Tests.{le-ltb, ltb-false}
+use Rattle.refusals.proofs.Lowest.{neither}
 use Rattle.bits.specs.Bits.{toBits, someAbove, AllBits}
-
--- where one of two tests or the other would be refused, and nothing is, neither holds
-pub neither : (s t : Bool) → (s || t) ≡ false → (s ≡ false) × (t ≡ false)
-neither true t e = absurd (true≢false e)
-neither false t e = (refl, e)
 
 pub head-within : (limit element : ℕ) (elements : List ℕ) → someAbove limit (element ∷ elements) ≡ false → element ≤ limit
 unfolding someAbove

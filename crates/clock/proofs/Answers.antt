@@ -5,11 +5,11 @@ use mathlib.Core.Path.{_≡_, refl, sym, ap, _∙_}
 use mathlib.Core.Bool.{Bool, true, false, _&&_, true≢false}
 use mathlib.Core.Logic.{_↔_, _⊎_, inl, inr}
 use native.Mathlib.Omega.{arith}
+use native.Mathlib.Nat.{mod-eq-of-lt}
 use lib.Dec.{ltb, leb, eqb, lit<}
 use borrow.Author.Tests.{ltb-false, leb-false, lt-leb}
-use Rattle.bits.proofs.Bit.{neither}
-use Rattle.refusals.specs.Answer.{Clear}
-use Rattle.refusals.proofs.Lowest.{otherwise-accepted, accepted-as}
+use Rattle.refusals.specs.Answer.{Clear, Rising}
+use Rattle.refusals.proofs.Lowest.{neither, otherwise-accepted, accepted-as, carried}
 use Rattle.clock.specs.declared.types.Flag.{Flag}
 use Rattle.clock.specs.declared.types.Address.{Address}
 use Rattle.clock.specs.declared.types.DayFrame.{DayFrame}
@@ -20,9 +20,9 @@ use Rattle.clock.specs.declared.types.Placed.the-variants.{At, Refused a
 use Rattle.clock.specs.Modes.{isYes, framesInSecond, framesInDay}
 use Rattle.clock.specs.Clock.{outside, skipped, shown}
 use Rattle.clock.specs.Counting.{dayOf, countOf, addressAt}
-use Rattle.clock.specs.Calls.{refusalsOf, numberRefusals, numberOf, addressOf}
+use Rattle.clock.specs.Calls.{addressRefusals, refusalsOf, numberRefusals, numberOf, addressOf, fieldsOf}
 use Rattle.clock.proofs.Rate.{Rate, plain, drops}
-use Rattle.clock.proofs.Shown.{turnedAway, number-of-address, address-of-number, address-stands, never-shown, shown-at-its-number}
+use Rattle.clock.proofs.Shown.{turnedAway, number-of-address, address-of-number, address-stands, shown-is, never-shown, shown-at-its-number}
 
 -- a mode and a drop that can be counted in: mode 0, 1 or 2, and drop in mode 2 only
 pub record Counts (mode : ℕ) (drop : Bool) : Type 0 where
@@ -55,6 +55,23 @@ addressIn a (Unplaced n) = a
 pub no-address : {a : Address} (k : ℕ) → Unplaced k ≡ At a → ⊥
 no-address k e = let z : _≡_ {A = ℕ} 0 1 = cc in omega arith
 
+-- one answer told as the other, a refusal by the same number
+placedAs : Address → Numbered → Placed
+placedAs a (Number n) = At a
+placedAs a (Unnumbered n) = Unplaced n
+
+numberedAs : DayFrame → Placed → Numbered
+numberedAs n (At a) = Number n
+numberedAs n (Unplaced k) = Unnumbered k
+
+-- the lists of the calls stand in the table's order, so that what they give is the lowest that applies
+pub address-rows-rise : (mode : ℕ) (drop out skip : Bool) → Rising (addressRefusals mode drop out skip)
+address-rows-rise mode drop out skip =
+    ((lit< tt, (lit< tt, (lit< tt, tt))), ((lit< tt, (lit< tt, tt)), ((lit< tt, tt), (tt, tt))))
+
+pub number-rows-rise : (mode : ℕ) (drop : Flag) (n : ℕ) → Rising (numberRefusals mode drop n)
+number-rows-rise mode drop n = ((lit< tt, (lit< tt, tt)), ((lit< tt, tt), (tt, tt)))
+
 module _ (mode : ℕ) (drop : Flag) where
   -- an address is clear of refusals exactly where the mode counts and the clock shows it
   pub clear-address :
@@ -73,7 +90,7 @@ module _ (mode : ℕ) (drop : Flag) where
       (known, (tests .0, (kind .nine (skipped a) ∙ tests .1, (allowed, tt))))
 
   -- what each call says where it accepts
-  numbered : (a : Address) (n : DayFrame) → numberOf mode drop a ≡ Number n
+  pub numbered : (a : Address) (n : DayFrame) → numberOf mode drop a ≡ Number n
       → Clear (refusalsOf mode drop a) × (countOf (framesInSecond mode) (isYes drop) a ≡ n .0)
   unfolding numberOf numberIn
   numbered a n e =
@@ -111,6 +128,27 @@ module _ (mode : ℕ) (drop : Flag) where
           let number = rw (address .1) at (number-of-address (kind .rate) (n .0) low) in
           otherwise-accepted Unnumbered _ (refusalsOf mode drop a) (address-clear a (address .0 .0) (address .0 .1 .0) stands)
           ∙ ap (λ (k : ℕ). Number (record { 0 = k })) number
+
+  -- in a mode that counts, every number below the day is answered by what the clock shows, and that by the number
+  module _ (known : ltb 2 mode ≡ false) (allowed : (ltb mode 2 && isYes drop) ≡ false) (n : ℕ) (low : n < framesInDay mode (isYes drop)) where
+    pub address-is-shown : addressOf mode drop (record { 0 = n }) ≡ At (shown (framesInSecond mode) (isYes drop) n)
+    unfolding addressOf
+    address-is-shown =
+        let kind = counts mode (isYes drop) known allowed in
+        otherwise-accepted Unplaced _ (numberRefusals mode drop n) (known, (allowed, (lt-leb _ _ low, tt)))
+        ∙ ap At (sym (shown-is (kind .rate) n ∙ rw (mod-eq-of-lt (rw (kind .day) at low))))
+
+    pub number-of-shown : numberOf mode drop (shown (framesInSecond mode) (isYes drop) n) ≡ Number (record { 0 = n })
+    number-of-shown = one-to-one (shown (framesInSecond mode) (isYes drop) n) (record { 0 = n }) .1 address-is-shown
+
+  -- clock fields make an address exactly where it has a number, and are refused as it is
+  pub fields-as-number : (a : Address) (n : ℕ) → numberOf mode drop a ≡ Unnumbered n ↔ fieldsOf mode drop a ≡ Unplaced n
+  unfolding numberOf fieldsOf placedAs numberedAs
+  fields-as-number a n =
+      let number : DayFrame = record { 0 = countOf (framesInSecond mode) (isYes drop) a } in
+      let there = carried (placedAs a) Unnumbered (Number number) (refusalsOf mode drop a) in
+      let back = carried (numberedAs number) Unplaced (At a) (refusalsOf mode drop a) in
+      (λ e. sym there ∙ ap (placedAs a) e, λ e. sym back ∙ ap (numberedAs number) e)
 
   -- "an address is turned away exactly when the clock, stepped from midnight by the standard's rule, never shows it": in a mode
   -- that counts, by 8 or 9

@@ -5,37 +5,47 @@ use mathlib.Core.Path.{_≡_, refl, sym, ap, _∙_}
 use mathlib.Core.Bool.{Bool, true, false, _&&_, _||_, true≢false}
 use native.Mathlib.Omega.{arith}
 use lib.Dec.{eqb}
+use borrow.Author.Tests.{lt-leb}
 use lib.IntN.{ℤ, pos, negsuc, subℕ}
 use lib.Signed.{_≤ℤ_, _<ℤ_}
-use Rattle.bits.proofs.Bit.{neither}
 use Rattle.refusals.specs.Answer.{Clear}
-use Rattle.refusals.proofs.Lowest.{otherwise-accepted, accepted-as}
+use Rattle.refusals.proofs.Lowest.{neither, otherwise-accepted, accepted-as}
 use Rattle.clock.specs.declared.types.Flag.{Flag}
 use Rattle.clock.specs.declared.types.Address.{Address}
+use Rattle.clock.specs.declared.types.DayFrame.{DayFrame}
+use Rattle.clock.specs.declared.types.Numbered.the-variants.{Number}
 use Rattle.clock.specs.declared.types.Placed.the-variants.{At, Refused as Unplaced}
 use Rattle.clock.specs.declared.types.Span.{Span}
-use Rattle.clock.specs.declared.types.Span.the-variants.{Frames, Refused as Apart}
+use Rattle.clock.specs.declared.types.Span.the-variants.{Frames, Refused as Unmeasured}
 use Rattle.clock.specs.Modes.{isYes, framesInSecond, framesInDay}
 use Rattle.clock.specs.Clock.{outside, skipped, stepped}
 use Rattle.clock.specs.Counting.{dayOf, countOf, addressAt, distanceOf, sumOf}
-use Rattle.clock.specs.Calls.{refusalsOf, refusalsOfTwo, spanOf, plusOf}
+use Rattle.clock.specs.Calls.{refusalsOf, refusalsOfTwo, numberRefusals, numberOf, addressOf, spanOf, plusOf}
 use Rattle.clock.proofs.Shown.{address-of-number, stepped-is}
 use Rattle.clock.proofs.Round.{Brought, brought, arrives, in-range, sum-below, back-and-on}
 use Rattle.clock.proofs.Sizes.{even-day, some-day}
-use Rattle.clock.proofs.Answers.{Counts, clear-address, addressIn, no-address}
+use Rattle.clock.proofs.Answers.{Counts, clear-address, numbered, addressIn, no-address}
 
-no-span : {z : ℤ} (k : ℕ) → Apart k ≡ Frames z → ⊥
+no-span : {z : ℤ} (k : ℕ) → Unmeasured k ≡ Frames z → ⊥
 no-span k e = let z : _≡_ {A = ℕ} 0 1 = cc in omega arith
 
 framesIn : ℤ → Span → ℤ
 framesIn z (Frames y) = y
-framesIn z (Apart n) = z
+framesIn z (Unmeasured n) = z
 
 -- where two addresses together are not skipped, neither is
 neither-skipped : (p q s t : Bool) → (p && (q && (s || t))) ≡ false → ((p && (q && s)) ≡ false) × ((p && (q && t)) ≡ false)
 neither-skipped true true s t e = neither s t e
 neither-skipped true false s t e = (refl, refl)
 neither-skipped false q s t e = (refl, refl)
+
+both-false : (s t : Bool) → s ≡ false → t ≡ false → (s || t) ≡ false
+both-false s t e f = rw (e, f)
+
+both-unskipped : (p q s t : Bool) → (p && (q && s)) ≡ false → (p && (q && t)) ≡ false → (p && (q && (s || t))) ≡ false
+both-unskipped true true s t e f = both-false s t e f
+both-unskipped true false s t e f = refl
+both-unskipped false q s t e f = refl
 
 module _ (mode : ℕ) (drop : Flag) where
   -- the mode's rate and day, an address's number and a number's address
@@ -64,7 +74,7 @@ module _ (mode : ℕ) (drop : Flag) where
       → Clear (refusalsOf mode drop from) × Clear (refusalsOf mode drop to) × Brought day (number from) (number to) z
   unfolding spanOf framesIn
   measured from to z e =
-      let taken = accepted-as Apart _ (refusalsOfTwo mode drop from to) (Frames z) no-span e in
+      let taken = accepted-as Unmeasured _ (refusalsOfTwo mode drop from to) (Frames z) no-span e in
       let clear = taken .0 in
       let out = neither (outside fps from) (outside fps to) (clear .1 .0) in
       let skip = neither-skipped (eqb mode 2) (isYes drop) (skipped from) (skipped to) (clear .1 .1 .0) in
@@ -92,6 +102,28 @@ module _ (mode : ℕ) (drop : Flag) where
   moved a b z e =
       let taken = accepted-as Unplaced _ (refusalsOf mode drop a) (At b) no-address e in
       (taken .0, ap (addressIn b) (taken .1))
+
+  -- a distance is measured wherever both addresses have numbers, and a sum is made wherever the address has one
+  pub distance-is :
+      (from to : Address) (m n : DayFrame) → numberOf mode drop from ≡ Number m → numberOf mode drop to ≡ Number n
+      → spanOf mode drop from to ≡ Frames (distanceOf day (m .0) (n .0))
+  unfolding spanOf
+  distance-is from to m n e f =
+      let first = numbered mode drop from m e in
+      let second = numbered mode drop to n f in
+      let out = both-false _ _ (first .0 .1 .0) (second .0 .1 .0) in
+      let skip = both-unskipped (eqb mode 2) (isYes drop) (skipped from) (skipped to) (first .0 .1 .1 .0) (second .0 .1 .1 .0) in
+      otherwise-accepted Unmeasured _ (refusalsOfTwo mode drop from to) (first .0 .0, (out, (skip, first .0 .1 .1 .1)))
+      ∙ rw (first .1, second .1)
+
+  pub sum-is : (a : Address) (n : DayFrame) (z : ℤ) → numberOf mode drop a ≡ Number n → plusOf mode drop a z ≡ addressOf mode drop (record { 0 = sumOf day (n .0) z })
+  unfolding plusOf addressOf
+  sum-is a n z e =
+      let taken = numbered mode drop a n e in
+      let low = sum-below day (some-day mode day (isYes drop) refl) (n .0) z in
+      otherwise-accepted Unplaced _ (refusalsOf mode drop a) (taken .0)
+      ∙ rw (taken .1)
+      (sym (otherwise-accepted Unplaced _ (numberRefusals mode drop (sumOf day (n .0) z)) (taken .0 .0, (taken .0 .1 .1 .1 .0, (lt-leb _ _ low, tt)))))
 
   -- adding a count is as many clock steps on, round midnight
   pub added-is-stepped : (a b : Address) (k : ℕ) → plusOf mode drop a (pos k) ≡ At b → stepped fps (isYes drop) k a ≡ b

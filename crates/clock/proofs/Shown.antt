@@ -4,9 +4,9 @@ use Prim.Native.Nat.{ℕ, zero, suc, _+_, _*_, _%_, _<_}
 use mathlib.Core.Path.{_≡_, refl, sym, ap, _∙_}
 use mathlib.Core.Bool.{Bool, true, false, _&&_, _||_, true≢false}
 use native.Mathlib.Omega.{arith}
-use native.Mathlib.Nat.{mod-lt, mod-eq-of-lt, mod-add-mod, zero-div, zero-mod, add-zero, zero-add}
+use native.Mathlib.Nat.{mod-lt, mod-eq-of-lt, mod-self, mod-add-mod, zero-div, zero-mod, add-zero, zero-add}
 use lib.Dec.{lit<}
-use Rattle.bits.proofs.Bit.{neither}
+use Rattle.refusals.proofs.Lowest.{neither}
 use Rattle.clock.specs.declared.types.Address.{Address}
 use Rattle.clock.specs.Clock.{midnight, outside, skipped, step, stepped, shown}
 use Rattle.clock.specs.Counting.{dayOf, countOf, addressAt, faceAt, placeAt}
@@ -46,6 +46,10 @@ module _ {fps : ℕ} {drop : Bool} (rate : Rate fps drop) where
   -- what the clock shows n steps after midnight: for n below the day the address of n, and after the day's count midnight again
   pub shown-is : (n : ℕ) → shown fps drop n ≡ addressAt fps drop (n % dayOf fps drop)
   shown-is n = rw (← first-address rate) (stepped-is n 0 (some-day rate) ∙ rw (zero-add n))
+
+  -- after the day's count the clock shows midnight again
+  pub midnight-again : shown fps drop (dayOf fps drop) ≡ midnight
+  midnight-again = shown-is (dayOf fps drop) ∙ rw (mod-self (dayOf fps drop)) (first-address rate)
 
   -- the number of the n-th address is n
   pub number-of-address : (n : ℕ) → n < dayOf fps drop → countOf fps drop (addressAt fps drop n) ≡ n

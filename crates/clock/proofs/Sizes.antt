@@ -35,9 +35,9 @@ pub record Bytes (a : Address) : Type 0 where
 pub place-small : (fps : ℕ) (a : Address) → Bytes a → fps ≤ 30 → placeOf fps a < 30000000
 place-small fps a b low = omega (arith, mul-le-mul-left (60 * minutesOf a + a .seconds) low)
 
--- what drop-frame skips is less than the place
-pub skips-fit : (fps : ℕ) (a : Address) → 0 < fps → 2 * (minutesOf a - minutesOf a / 10) ≤ placeOf fps a
-skips-fit fps a some = omega (arith, mul-le-mul-left (60 * minutesOf a + a .seconds) some)
+-- a place is at least the frames of its minutes
+pub place-large : (fps : ℕ) (a : Address) → 0 < fps → 60 * minutesOf a ≤ placeOf fps a
+place-large fps a some = omega (arith, mul-le-mul-left (60 * minutesOf a + a .seconds) some)
 
 -- the same of a count that is known to be an address's, and of a day that is known to be a mode's
 pub count-small :

@@ -10,6 +10,7 @@ use Rattle.refusals.specs.Answer.{Refusal, _when_, answer}
 use Rattle.clock.specs.declared.types.Flag.{Flag}
 use Rattle.clock.specs.declared.types.Address.{Address}
 use Rattle.clock.specs.declared.types.DayFrame.{DayFrame}
+-- each answer's last case is `Refused` with its number; the four are told apart here by what is refused
 use Rattle.clock.specs.declared.types.Verdict.{Verdict}
 use Rattle.clock.specs.declared.types.Verdict.the-variants.{Sound, Refused as Unsound}
 use Rattle.clock.specs.declared.types.Numbered.{Numbered}
@@ -17,7 +18,7 @@ use Rattle.clock.specs.declared.types.Numbered.the-variants.{Number, Ref
 use Rattle.clock.specs.declared.types.Placed.{Placed}
 use Rattle.clock.specs.declared.types.Placed.the-variants.{At, Refused as Unplaced}
 use Rattle.clock.specs.declared.types.Span.{Span}
-use Rattle.clock.specs.declared.types.Span.the-variants.{Frames, Refused as Apart}
+use Rattle.clock.specs.declared.types.Span.the-variants.{Frames, Refused as Unmeasured}
 use Rattle.clock.specs.Modes.{isYes, framesInSecond, framesInDay}
 use Rattle.clock.specs.Clock.{outside, skipped}
 use Rattle.clock.specs.Counting.{countOf, addressAt, distanceOf, sumOf}
@@ -70,7 +71,7 @@ fieldsOf mode drop a = answer Unplaced (refusalsOf mode drop a) (At a)
 unfoldable pub spanOf : ℕ → Flag → Address → Address → Span
 spanOf mode drop from to =
     let number = countOf (framesInSecond mode) (isYes drop) in
-    answer Apart (refusalsOfTwo mode drop from to)
+    answer Unmeasured (refusalsOfTwo mode drop from to)
     (Frames (distanceOf (framesInDay mode (isYes drop)) (number from) (number to)))
 
 -- an address and a signed count of frames

@@ -24,8 +24,8 @@ placeOf fps a = (60 * minutesOf a + a .seconds) * fps + a .frames .0
 unfoldable pub countOf : ℕ → Bool → Address → ℕ
 countOf fps drop a = placeOf fps a - cond drop (2 * (minutesOf a - minutesOf a / 10)) 0
 
--- the place of number n on a clock that skips nothing: ten minutes have 17,982 numbers, in which 18 are skipped; the first of
--- the ten minutes has 1,800, and the others 1,798
+-- the place of number n on a clock that skips nothing: ten minutes have 17,982 numbers, in which 18 are skipped; after the first
+-- two of them each 1,798 are a minute, and each minute but the first begins two places late (the subtraction stops at 0)
 abbrev pub placeAt : Bool → ℕ → ℕ
 placeAt drop n = n + cond drop (18 * (n / 17982) + 2 * ((n % 17982 - 2) / 1798)) 0
 

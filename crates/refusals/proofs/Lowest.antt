@@ -2,9 +2,9 @@
 -- Assumes nothing.
 use Prim.Native.Nat.{ℕ, _≤_, _<_}
 use mathlib.Core.Path.{_≡_, refl, _∙_, sym}
-use mathlib.Core.Bool.{Bool, true, false, cond, false≢true}
+use mathlib.Core.Bool.{Bool, true, false, _||_, cond, true≢false}
 use mathlib.Core.List.{List, [], _∷_}
-use mathlib.Core.Logic.{_⊎_, inl, inr}
+use mathlib.Core.Logic.{_⊎_, inl, inr, ⊎-elim}
 use native.Mathlib.Omega.{arith}
 use Rattle.refusals.specs.Answer.{Refusal, answer, Applies, Clear, Above, Rising}
 
@@ -13,20 +13,44 @@ above : {n m : ℕ} (rows : List Refusal) → Above n rows → Applies m rows �
 above (row ∷ rows) up (inl a) = omega arith
 above (row ∷ rows) up (inr a) = above rows (up .1) a
 
-module _ {A : Type 0} (refused : ℕ → A) (accepted : A) where
-  -- the number m is the list's answer, applies, and is at most n
-  abbrev pub Given : List Refusal → ℕ → Type 0
-  Given rows n = (m : ℕ) × (answer refused rows accepted ≡ refused m) × (m ≤ n) × Applies m rows
+-- where one of two tests or the other would be refused, and nothing is, neither holds
+pub neither : (s t : Bool) → (s || t) ≡ false → (s ≡ false) × (t ≡ false)
+neither true t e = absurd (true≢false e)
+neither false t e = (refl, e)
 
-  -- the number given applies, and none that applies is lower
-  pub lowest-is-given : (rows : List Refusal) → Rising rows → (n : ℕ) → Applies n rows → Given rows n
+module _ {A : Type 0} (refused : ℕ → A) (accepted : A) where
+  -- m is the list's answer, it applies, and none that applies is lower
+  pub record Given (rows : List Refusal) : Type 0 where
+    pub number : ℕ
+    pub given : answer refused rows accepted ≡ refused number
+    pub applies : Applies number rows
+    pub lowest : (n : ℕ) → Applies n rows → number ≤ n
+
+  -- "The lowest that applies is given"
+  pub lowest-is-given : (rows : List Refusal) → Rising rows → (n : ℕ) → Applies n rows → Given rows
   lowest-is-given (row ∷ rows) up n a = go (row .applies) refl a (lowest-is-given rows (up .1) n)
     where
-      go : (t : Bool) → row .applies ≡ t → Applies n (row ∷ rows) → (Applies n rows → Given rows n) → Given (row ∷ rows) n
-      go true e (inl b) rest = (row .number, rw e, omega arith, inl (refl, e))
-      go true e (inr b) rest = (row .number, rw e, (let h : row .number < n = above rows (up .0) b in omega arith), inl (refl, e))
-      go false e (inl b) rest = absurd (false≢true (sym e ∙ b .1))
-      go false e (inr b) rest = let g = rest b in (g .0, rw e (g .1), g .2, inr (g .3))
+      this : row .applies ≡ true → Given (row ∷ rows)
+      this e =
+          record {
+            number = row .number;
+            given = rw e;
+            applies = inl (refl, e);
+            lowest = λ m. ⊎-elim (λ (b : (row .number ≡ m) × (row .applies ≡ true)). omega arith)
+                (λ (b : Applies m rows). let h : row .number < m = above rows (up .0) b in omega arith);
+          }
+
+      go : (t : Bool) → row .applies ≡ t → Applies n (row ∷ rows) → (Applies n rows → Given rows) → Given (row ∷ rows)
+      go true e b rest = this e
+      go false e (inl b) rest = absurd (true≢false (sym (b .1) ∙ e))
+      go false e (inr b) rest =
+          let g = rest b in
+          record {
+            number = g .number;
+            given = rw e (g .given);
+            applies = inr (g .applies);
+            lowest = λ m. ⊎-elim (λ (d : (row .number ≡ m) × (row .applies ≡ true)). absurd (true≢false (sym (d .1) ∙ e))) (g .lowest m);
+          }
 
   -- "No refusal is given otherwise": where none applies, what is accepted is the answer, and only there
   pub otherwise-accepted : (rows : List Refusal) → Clear rows → answer refused rows accepted ≡ accepted

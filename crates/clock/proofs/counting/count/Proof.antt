@@ -9,7 +9,7 @@ use borrow.Author.Needs.{needs}
 use Rattle.clock.specs.declared.types.Address.{Address}
 use Rattle.clock.specs.Modes.{framesInSecond}
 use Rattle.clock.specs.Counting.{minutesOf, placeOf, countOf}
-use Rattle.clock.proofs.Sizes.{Bytes, some-rate, rate-small, place-small, skips-fit}
+use Rattle.clock.proofs.Sizes.{Bytes, some-rate, rate-small, place-small, place-large}
 use Rattle.clock.proofs.counting.count.Statement.{statement}
 use Rattle.clock.proofs.counting.count.Tie as tie
 
@@ -22,8 +22,8 @@ module _ (mode fps : ℕ) (drop : Bool) (a : Address) (rate : fps ≡ framesInSe
   unfolding countOf
   whole d = rw (← rate, d) (sym (sub-zero (placeOf fps a)))
 
-  skips : 2 * (minutesOf a - minutesOf a / 10) ≤ placeOf fps a
-  skips = skips-fit fps a (rw rate (some-rate mode))
+  large : 60 * minutesOf a ≤ placeOf fps a
+  large = place-large fps a (rw rate (some-rate mode))
 
   small : Bytes a → placeOf fps a < 30000000
   small b = place-small fps a b (rw rate (rate-small mode))
@@ -76,7 +76,10 @@ mul-result : tie.Need-mul-result
 mul-result c = search needs
 
 sub-result-2 : tie.Need-sub-result-2
-sub-result-2 c = search skips
+sub-result-2 c =
+    let args = c .before .before .before .before .before .before .args in
+    let call = c .before .before .before .before .before .frames-in-second in
+    omega (arith, large (args .mode) (call .result) (args .drop) (args .a) (call .ensures))
 
 returns : tie.Need-returns
 returns c = search dropped

@@ -10,7 +10,7 @@ use Rattle.clock.specs.declared.types.Flag.{Flag}
 use Rattle.clock.specs.declared.types.Address.{Address}
 use Rattle.clock.specs.declared.types.Verdict.{Verdict}
 use Rattle.clock.specs.declared.types.Verdict.the-variants.{Sound, Refused as Unsound}
-use Rattle.clock.specs.declared.types.Span.the-variants.{Frames, Refused as Apart}
+use Rattle.clock.specs.declared.types.Span.the-variants.{Frames, Refused as Unmeasured}
 use Rattle.clock.specs.Modes.{isYes, framesInSecond, framesInDay}
 use Rattle.clock.specs.Counting.{countOf, distanceOf}
 use Rattle.clock.specs.Calls.{verdictOf, refusalsOfTwo, spanOf}
@@ -21,9 +21,9 @@ use Rattle.clock.proofs.numbers.distance.Tie as tie
 
 module _
     (mode : ℕ) (drop : Flag) (from to : Address) (found : Verdict) (judged : found ≡ verdictOf (refusalsOfTwo mode drop from to)) where
-  refused : (n : ℕ) → found ≡ Unsound n → Apart n ≡ spanOf mode drop from to
+  refused : (n : ℕ) → found ≡ Unsound n → Unmeasured n ≡ spanOf mode drop from to
   unfolding spanOf
-  refused n e = refused-by Apart _ (refusalsOfTwo mode drop from to) found judged n e
+  refused n e = refused-by Unmeasured _ (refusalsOfTwo mode drop from to) found judged n e
 
   measured :
       (dropped : Bool) (day m n : ℕ) (z y : ℤ) → dropped ≡ isYes drop → day ≡ framesInDay mode dropped
@@ -31,7 +31,7 @@ module _
       → z ≡ distanceOf day m n → y ≡ z → found ≡ Sound → Frames y ≡ spanOf mode drop from to
   unfolding spanOf
   measured dropped day m n z y asked whole first second e same sound =
-      ap Frames (same ∙ e ∙ rw (whole, first, second, asked)) ∙ passed-by Apart _ (refusalsOfTwo mode drop from to) found judged sound
+      ap Frames (same ∙ e ∙ rw (whole, first, second, asked)) ∙ passed-by Unmeasured _ (refusalsOfTwo mode drop from to) found judged sound
 
 judge-two-requires : tie.Need-judge-two-requires
 judge-two-requires c κs = search needs
