@@ -1,8 +1,8 @@
 -- An element of a list of bits is 0 or 1; a number's bit list is a list of bits, as long as its width.
 -- Assumes nothing.
 use Prim.Native.Nat.{ℕ, zero, suc, _/_, _%_, _<_, _≤_}
-use mathlib.Core.Path.{_≡_, refl, ap}
-use mathlib.Core.Bool.{false}
+use mathlib.Core.Path.{_≡_, refl, sym, ap, _∙_}
+use mathlib.Core.Bool.{false, _||_, or-assoc}
 use mathlib.Core.List.{List, [], _∷_, _++_}
 use native.Mathlib.Omega.{arith}
 use lib.Dec.{ltb}
@@ -33,8 +33,12 @@ unfolding toBits
 length-toBits zero n = refl
 length-toBits (suc width) n = ap suc (length-toBits width (n / 2))
 
-pub within-append : (limit : ℕ) (xs ys : List ℕ) → someAbove limit xs ≡ false → someAbove limit ys ≡ false → someAbove limit (xs ++ ys) ≡ false
+-- an element above the limit is in the first of two lists or in the second
+pub above-append : (limit : ℕ) (xs ys : List ℕ) → someAbove limit (xs ++ ys) ≡ (someAbove limit xs || someAbove limit ys)
 unfolding someAbove
-within-append limit [] ys p q = q
-within-append limit (x ∷ xs) ys p q =
-    within-cons limit x (xs ++ ys) (head-within limit x xs p) (within-append limit xs ys (tail-within limit x xs p) q)
+above-append limit [] ys = refl
+above-append limit (x ∷ xs) ys = rw (above-append limit xs ys) (sym (or-assoc (ltb limit x) (someAbove limit xs) (someAbove limit ys)))
+
+pub within-append :
+    (limit : ℕ) (xs ys : List ℕ) → someAbove limit xs ≡ false → someAbove limit ys ≡ false → someAbove limit (xs ++ ys) ≡ false
+within-append limit xs ys p q = above-append limit xs ys ∙ rw (p, q)

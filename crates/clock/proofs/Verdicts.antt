@@ -3,8 +3,9 @@
 use Prim.Native.Nat.{ℕ}
 use mathlib.Core.Path.{_≡_, sym, ap, _∙_}
 use mathlib.Core.List.{List}
-use Rattle.refusals.specs.Answer.{Refusal, answer}
-use Rattle.refusals.proofs.Lowest.{carried}
+use native.Mathlib.Omega.{arith}
+use Rattle.refusals.specs.Answer.{Refusal, answer, Clear}
+use Rattle.refusals.proofs.Lowest.{carried, accepted-as}
 use Rattle.clock.specs.declared.types.Verdict.{Verdict}
 use Rattle.clock.specs.declared.types.Verdict.the-variants.{Sound, Refused as Unsound}
 use Rattle.clock.specs.Calls.{verdictOf}
@@ -13,6 +14,9 @@ use Rattle.clock.specs.Calls.{verdictOf}
 told : {A : Type 0} → (ℕ → A) → A → Verdict → A
 told refused accepted Sound = accepted
 told refused accepted (Unsound n) = refused n
+
+no-verdict : (k : ℕ) → Unsound k ≡ Sound → ⊥
+no-verdict k e = let z : _≡_ {A = ℕ} 0 1 = cc in omega arith
 
 module _ {A : Type 0} (refused : ℕ → A) (accepted : A) (refusals : List Refusal) (found : Verdict) (judged : found ≡ verdictOf refusals) where
   by-verdict : told refused accepted found ≡ answer refused refusals accepted
@@ -26,3 +30,7 @@ module _ {A : Type 0} (refused : ℕ → A) (accepted : A) (refusals : List Refu
   pub passed-by : found ≡ Sound → accepted ≡ answer refused refusals accepted
   unfolding told
   passed-by e = ap (told refused accepted) (sym e) ∙ by-verdict
+
+  -- where the verdict is sound, no row of the list applies
+  pub sound-clear : found ≡ Sound → Clear refusals
+  sound-clear e = accepted-as Unsound Sound refusals Sound no-verdict (sym judged ∙ e) .0

@@ -1,0 +1,67 @@
+-- A word of 80 bits that ends in the sync word is heard as its information bits.
+-- Assumes nothing.
+use Prim.Native.Nat.{ℕ, _-_, _<_, _≤_}
+use mathlib.Core.Path.{_≡_, refl, sym, ap, ap₂, _∙_}
+use mathlib.Core.Bool.{Bool, true, false, not, _||_}
+use mathlib.Core.List.{List, _++_}
+use native.Mathlib.Omega.{arith}
+use lib.Dec.{ltb, eqb}
+use lib.ListN.{length, take, drop, length-take, length-drop, take-append-drop}
+use lib.Seq.{length-take-le}
+use Rattle.refusals.proofs.Lowest.{neither, carried}
+use Rattle.bits.specs.Bits.{value, toBits, someAbove}
+use Rattle.bits.proofs.Bit.{above-append}
+use Rattle.bits.proofs.Inverse.{toBits-value}
+use Rattle.runs.specs.Run.{same}
+use Rattle.runs.proofs.Same.{same-itself, not-same}
+use Rattle.clock.specs.declared.types.Flag.the-variants.{No}
+use Rattle.record.specs.declared.types.Record.{Record}
+use Rattle.record.specs.declared.types.Unpacked.{Unpacked}
+use Rattle.record.specs.declared.types.Unpacked.the-variants.{Holds, Refused as Unheld}
+use Rattle.record.specs.Record.{recordOf, marked}
+use Rattle.record.specs.Calls.{bitsRefusals, withMode, unpackedOf}
+use Rattle.ltc.specs.Word.{syncWord, wordWith, infoIn, oddZeros}
+use Rattle.ltc.specs.Calls.{readOf, heardOf}
+
+-- an answer with the mark taken off its record
+abbrev pub unmarked : Unpacked → Unpacked
+unmarked (Holds r) = Holds (marked No r)
+unmarked (Unheld n) = Unheld n
+
+-- where the zeros are even, what is heard is what the record says, the mark taken off
+pub heard-is : (mode info : ℕ) → oddZeros (wordWith info) ≡ false → heardOf mode info ≡ unmarked (unpackedOf mode info)
+unfolding heardOf unpackedOf
+heard-is mode info even = rw even (sym (carried unmarked Unheld (Holds (recordOf mode info)) (withMode mode (bitsRefusals mode info))))
+
+module _ (word : List ℕ) (long : length word ≡ 80) where
+  -- the two parts of a word
+  pub parts : take 64 word ++ drop 64 word ≡ word
+  parts = take-append-drop 64 word
+
+  pub low-length : length (take 64 word) ≡ 64
+  low-length = length-take-le 64 word (omega arith)
+
+  pub high-length : length (drop 64 word) ≡ 16
+  high-length = length-drop 64 word ∙ omega arith
+
+  -- an element above 1 is in one part or in the other
+  pub above-in-parts : someAbove 1 word ≡ (someAbove 1 (take 64 word) || someAbove 1 (drop 64 word))
+  above-in-parts = ap (someAbove 1) (sym parts) ∙ above-append 1 (take 64 word) (drop 64 word)
+
+  module _ (low : someAbove 1 (take 64 word) ≡ false) (high : someAbove 1 (drop 64 word) ≡ false) where
+    -- sixteen bits are the sync word exactly where they stand for its number
+    pub sync-by-number : value (drop 64 word) ≡ 0xbffc → drop 64 word ≡ syncWord
+    unfolding syncWord toBits
+    sync-by-number e = sym (toBits-value (drop 64 word) high) ∙ rw (high-length, e)
+
+    pub other-sync : (value (drop 64 word) ≡ 0xbffc → ⊥) → same (drop 64 word) syncWord ≡ false
+    unfolding value syncWord
+    other-sync other = not-same (drop 64 word) syncWord (λ e. other (ap value e ∙ of-the-sync))
+      where
+        of-the-sync : value syncWord ≡ 0xbffc
+        of-the-sync = refl
+
+    pub word-is : value (drop 64 word) ≡ 0xbffc → word ≡ wordWith (infoIn word)
+    word-is e =
+        let info : take 64 word ≡ toBits 64 (infoIn word) = rw low-length at (sym (toBits-value (take 64 word) low)) in
+        sym parts ∙ ap₂ (λ (xs ys : List ℕ). xs ++ ys) info (sync-by-number e)

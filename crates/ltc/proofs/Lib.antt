@@ -1,0 +1,12 @@
+-- Zeros     the zeros of a word by the language's count of ones
+-- Heard     a word with its sync word is heard as its information bits
+pub mod Zeros
+pub mod Heard
+-- Marked    a mark said anew changes no refusal
+pub mod Marked
+-- Words     a word has 80 elements, and is stored as its two parts
+pub mod Words
+-- Evened    the polarity bit makes the zeros even, and only one of its two values does
+pub mod Evened
+-- RoundTrip accepted words and acceptable records match one to one
+pub mod RoundTrip

@@ -1,0 +1,24 @@
+-- The zeros of a word, by the language's count of ones over its 64 information bits: the sync word has three more.
+-- Assumes nothing.
+use Prim.Native.Nat.{ℕ, _+_, _-_, _%_, _^_, _<_, _≤_}
+use mathlib.Core.Path.{_≡_, refl, sym, ap, _∙_}
+use mathlib.Core.Bool.{Bool}
+use native.Mathlib.Omega.{arith}
+use lib.Dec.{eqb}
+use lib.Count.{ones as counted, ones-le}
+use Rattle.bits.specs.Bits.{toBits, howMany, zeros}
+use Rattle.bits.proofs.Count.{count-zeros, howMany-append}
+use Rattle.ltc.specs.Word.{syncWord, wordWith, oddZeros}
+
+pub word-zeros : (info : ℕ) → info < 2 ^ 64 → zeros (wordWith info) ≡ 67 - counted info
+unfolding syncWord howMany
+word-zeros info h =
+    let own = count-zeros 64 info h in
+    howMany-append 0 (toBits 64 info) syncWord ∙ omega arith
+
+pub odd-by-count : (info : ℕ) → info < 2 ^ 64 → eqb ((67 - counted info) % 2) 1 ≡ oddZeros (wordWith info)
+unfolding oddZeros
+odd-by-count info h = rw (word-zeros info h)
+
+pub few-ones : (info : ℕ) → info < 2 ^ 64 → counted info ≤ 64
+few-ones info h = ones-le 64 info h

@@ -1,0 +1,79 @@
+-- `ltc::reading::read_info` meets its contract: odd zeros are refused, and else the record answers, its mark taken off.
+-- Assumes nothing.
+use mathlib.Core.Path.{_≡_, ap, sym, _∙_}
+use mathlib.Core.Bool.{Bool, true, false}
+use Prim.Native.Nat.{ℕ}
+use lib.Dec.{ltb}
+use borrow.Author.Needs.{needs}
+use Rattle.clock.specs.declared.types.Flag.the-variants.{No}
+use Rattle.record.specs.declared.types.Record.{Record}
+use Rattle.record.specs.declared.types.Unpacked.{Unpacked}
+use Rattle.record.specs.declared.types.Unpacked.the-variants.{Holds, Refused as Unheld}
+use Rattle.record.specs.Calls.{unpackedOf}
+use Rattle.record.specs.Record.{marked}
+use Rattle.ltc.specs.Word.{wordWith, oddZeros}
+use Rattle.ltc.specs.Calls.{heardOf}
+use Rattle.ltc.proofs.Heard.{unmarked, heard-is}
+use Rattle.ltc.proofs.reading.read_info.Statement.{statement}
+use Rattle.ltc.proofs.reading.read_info.Tie as tie
+
+module _ (mode info : ℕ) where
+  no-mode : ltb 2 mode ≡ true → Unheld 2 ≡ heardOf mode info
+  unfolding heardOf
+  no-mode e = rw e
+
+  module _ (odd : Bool) (tested : odd ≡ oddZeros (wordWith info)) where
+    odd-zeros : ltb 2 mode ≡ false → odd ≡ true → Unheld 5 ≡ heardOf mode info
+    unfolding heardOf
+    odd-zeros known e = rw (known, ← tested, e)
+
+    module _ (even : odd ≡ false) (found : Unpacked) (told : found ≡ unpackedOf mode info) where
+      heard : unmarked found ≡ heardOf mode info
+      heard = ap unmarked told ∙ sym (heard-is mode info (sym tested ∙ even))
+
+      refused : (n : ℕ) → found ≡ Unheld n → Unheld n ≡ heardOf mode info
+      refused n e = ap unmarked (sym e) ∙ heard
+
+      held : (r s : Record) → found ≡ Holds r → s ≡ marked No r → Holds s ≡ heardOf mode info
+      held r s e taken-off = ap Holds taken-off ∙ (ap unmarked (sym e) ∙ heard)
+
+returns : tie.Need-returns
+returns c = search no-mode
+
+has-odd-zeros-requires : tie.Need-has-odd-zeros-requires
+has-odd-zeros-requires c κs = search needs
+
+returns-2 : tie.Need-returns-2
+returns-2 c = search odd-zeros
+
+from-bits-requires : tie.Need-from-bits-requires
+from-bits-requires c κs = search needs
+
+enum-known-found : tie.Need-enum-known-found
+enum-known-found c = search needs
+
+enum-known-found-2 : tie.Need-enum-known-found-2
+enum-known-found-2 c = search needs
+
+with-mark-requires : tie.Need-with-mark-requires
+with-mark-requires c κs = search needs
+
+returns-3 : tie.Need-returns-3
+returns-3 c = search refused
+
+returns-4 : tie.Need-returns-4
+returns-4 c = search held
+
+pub read-info-spec : {M : Type 1} → statement M
+read-info-spec =
+    tie.close
+    (tie.spec
+    returns
+    has-odd-zeros-requires
+    returns-2
+    from-bits-requires
+    enum-known-found
+    enum-known-found-2
+    with-mark-requires
+    returns-3
+    returns-4)

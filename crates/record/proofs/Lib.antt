@@ -1,0 +1,12 @@
+-- Places    the table of flags, by whether the mode is 25 frames
+pub mod Places
+-- Judged    what the clock refuses the record's own list refuses by the same number
+pub mod Judged
+-- Accepted  what acceptance says of a record's fields
+pub mod Accepted
+-- Fields    fields side by side, for every list of widths
+pub mod Fields
+-- RoundTrip reading what was written, and writing what was read
+pub mod RoundTrip
+-- Told      a carrier that takes its refusals from the record's answer refuses as its own list says
+pub mod Told

@@ -1,0 +1,73 @@
+-- `record::writing::to_bits` meets its contract: the verdict refuses as the call's list does, and what is sound is packed.
+-- Assumes nothing.
+use mathlib.Core.Path.{_≡_, ap, _∙_}
+use mathlib.Core.Bool.{Bool}
+use Prim.Native.Nat.{ℕ}
+use borrow.Author.Needs.{needs}
+use Rattle.clock.specs.declared.types.Flag.{Flag}
+use Rattle.clock.specs.declared.types.Address.{Address}
+use Rattle.clock.specs.declared.types.Verdict.{Verdict}
+use Rattle.clock.specs.declared.types.Verdict.the-variants.{Sound, Refused as Unsound}
+use Rattle.clock.specs.Calls.{verdictOf}
+use Rattle.clock.proofs.Verdicts.{refused-by, passed-by, sound-clear}
+use Rattle.record.specs.declared.types.Record.{Record}
+use Rattle.record.specs.declared.types.Packed.the-variants.{Bits, Refused as Unpackable}
+use Rattle.record.specs.Record.{Writable, infoOf, addressIn, groupAbove15}
+use Rattle.record.specs.Calls.{fieldRefusals, writeRefusals, withMode, packedOf}
+use Rattle.record.proofs.Accepted.{writable}
+use Rattle.record.proofs.writing.to_bits.Statement.{statement}
+use Rattle.record.proofs.writing.to_bits.Tie as tie
+
+module _
+    (mode : ℕ) (r : Record) (bad : Bool) (a : Address) (found : Verdict) (tested : bad ≡ groupAbove15 r) (placed : a ≡ addressIn r)
+    (judged : found ≡ verdictOf (withMode mode (fieldRefusals mode bad a (r .drop) (r .colour)))) where
+  judged-so : found ≡ verdictOf (withMode mode (writeRefusals mode r))
+  judged-so = judged ∙ rw (tested, placed)
+
+  fits : found ≡ Sound → Writable r
+  fits sound = writable mode r (sound-clear Unpackable (Unpackable 0) (withMode mode (writeRefusals mode r)) found judged-so sound)
+
+  refused : (n : ℕ) → found ≡ Unsound n → Unpackable n ≡ packedOf mode r
+  unfolding packedOf
+  refused n e = refused-by Unpackable _ (withMode mode (writeRefusals mode r)) found judged-so n e
+
+  made : (n : ℕ) → n ≡ infoOf mode r → found ≡ Sound → Bits n ≡ packedOf mode r
+  unfolding packedOf
+  made n e sound = ap Bits e ∙ passed-by Unpackable _ (withMode mode (writeRefusals mode r)) found judged-so sound
+
+has-high-group-requires : tie.Need-has-high-group-requires
+has-high-group-requires c κs = search needs
+
+address-in-requires : tie.Need-address-in-requires
+address-in-requires c κs = search needs
+
+judge-requires : tie.Need-judge-requires
+judge-requires c κs = search needs
+
+enum-known-found : tie.Need-enum-known-found
+enum-known-found c = search needs
+
+enum-told : tie.Need-enum-told
+enum-told c = search needs
+
+packed-requires : tie.Need-packed-requires
+packed-requires c κs = search fits
+
+returns : tie.Need-returns
+returns c = search refused
+
+returns-2 : tie.Need-returns-2
+returns-2 c = search made
+
+pub to-bits-spec : {M : Type 1} → statement M
+to-bits-spec =
+    tie.close
+    (tie.spec
+    has-high-group-requires
+    address-in-requires
+    judge-requires
+    enum-known-found
+    enum-told
+    packed-requires
+    returns
+    returns-2)

@@ -1,0 +1,8 @@
+-- Layout    the 64 information bits as a number, low bit first: reading bits by their places, writing fields side by side
+-- Flags     where the mark and the binary group flags stand, in one table by mode
+-- Record    the record that 64 bits hold, and the 64 bits that a record makes
+-- Calls     what each call answers, refusals in the table's order
+pub mod Layout
+pub mod Flags
+pub mod Record
+pub mod Calls

@@ -1,0 +1,28 @@
+-- A lent run: "A write fills its own elements from the given start in the middle of the lent run, and touches no other. A refused
+-- write leaves every element."
+-- Assumes nothing.
+use Prim.Native.Nat.{ℕ, _+_}
+use mathlib.Core.Bool.{Bool, true, false, _&&_}
+use mathlib.Core.List.{List, [], _∷_, _++_}
+use lib.Dec.{ltb, eqb}
+use lib.ListN.{length, take, drop}
+use Rattle.refusals.specs.Answer.{Refusal, answer}
+
+-- a word in the middle of a run
+unfoldable pub placed : ℕ → List ℕ → List ℕ → List ℕ
+placed start word run = take start run ++ (word ++ drop (start + length word) run)
+
+-- "fewer than 80, 90 or 23 elements from the start given, or start past the end"
+abbrev pub noRoom : ℕ → ℕ → List ℕ → Bool
+noRoom size start run = ltb (length run) (start + size)
+
+-- the run as a write leaves it: as it was where one of the refusals applies, and else with the word from the start on
+abbrev pub runAfter : List Refusal → ℕ → List ℕ → List ℕ → List ℕ
+runAfter refusals start word run = answer (λ (n : ℕ). run) refusals (placed start word run)
+
+-- the two runs have the same elements
+unfoldable pub same : List ℕ → List ℕ → Bool
+same [] [] = true
+same [] (y ∷ ys) = false
+same (x ∷ xs) [] = false
+same (x ∷ xs) (y ∷ ys) = eqb x y && same xs ys
