@@ -1,0 +1,14 @@
+-- Turns     the loops begin, go on and end
+pub mod Turns
+-- Parity    the language's count of ones is that of the bit list, over b0 to b7 and b0 to b8
+pub mod Parity
+-- Pieces    the 23 words from their pieces
+pub mod Pieces
+-- Data      what is written into data words is read from them again, and those that are not refused are written so
+pub mod Data
+-- Whole     the 23 words there and back
+pub mod Whole
+-- Answers   words that have the form of a packet answer what their information bits hold
+pub mod Answers
+-- RoundTrip accepted packets and what they hold match one to one
+pub mod RoundTrip

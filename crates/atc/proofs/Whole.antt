@@ -1,0 +1,219 @@
+-- The 23 words: what is written is not refused and reads as it was written, and what is not refused is what is written for what it holds.
+-- Assumes nothing.
+use Prim.Native.Nat.{ℕ, zero, suc, _%_, _^_, _<_, _≤_}
+use mathlib.Core.Path.{_≡_, refl, sym, ap, ap₂, _∙_}
+use mathlib.Core.Bool.{Bool, true, false, not, _&&_}
+use mathlib.Core.List.{List, [], _∷_, _++_, append-assoc, map, map-append}
+use native.Mathlib.Omega.{arith}
+use lib.Dec.{ltb, eqb}
+use lib.ListN.{length, length-map, take, drop, getD, length-append, length-drop, take-append-drop, drop-of-length-le}
+use lib.Seq.{take-at, drop-at, length-take-le, drop-drop, drop-cons, take-add, take-append-le, drop-append-le, getD-at}
+use borrow.Author.Tests.{eq-eqb, eqb-true, not-false}
+use Rattle.refusals.specs.Answer.{Clear}
+use Rattle.refusals.proofs.Lowest.{neither}
+use Rattle.bits.specs.Bits.{toBits, someAbove, AllBits}
+use Rattle.bits.proofs.Bit.{bits-of-number, length-toBits, within-append, head-within, tail-within, within-cons}
+use Rattle.bits.proofs.Inverse.{value-toBits, toBits-value}
+use Rattle.runs.specs.Run.{same}
+use Rattle.atc.specs.Words.{withOpposite, wrongWord, someWord, dataWords, nibbleIn, bitIn, infoIn, byteIn, sum9}
+use Rattle.atc.specs.Packet.{header, isHeaded, checksumOf, carriedOf, frontOf, packetWith, dataIn, typeIn, secondIn}
+use Rattle.atc.specs.Calls.{formRefusals}
+use Rattle.atc.proofs.Pieces.{length-dataWords, length-carried, length-front, length-packet, checksum-of-front}
+use Rattle.atc.proofs.Turns.{gathered-below}
+use Rattle.atc.proofs.Data.{AllMade, all-made, all-again, byte-value, carried-all-bits, take-dataWords, drop-dataWords, shifted}
+
+-- the same elements, and the elements of a list are its own
+same-elements : (xs ys : List ℕ) → same xs ys ≡ true → xs ≡ ys
+unfolding same
+same-elements [] [] e = refl
+same-elements [] (y ∷ ys) e = absurd (let z : _≡_ {A = ℕ} 0 1 = cc in omega arith)
+same-elements (x ∷ xs) [] e = absurd (let z : _≡_ {A = ℕ} 0 1 = cc in omega arith)
+same-elements (x ∷ xs) (y ∷ ys) e = let b = both (eqb x y) (same xs ys) e in ap₂ (λ (z : ℕ) (zs : List ℕ). z ∷ zs) (eqb-true x y (b .0)) (same-elements xs ys (b .1))
+  where
+    both : (s t : Bool) → (s && t) ≡ true → (s ≡ true) × (t ≡ true)
+    both true t h = (refl, h)
+    both false t h = absurd (let z : _≡_ {A = ℕ} 0 1 = cc in omega arith)
+
+same-itself : (xs : List ℕ) → same xs xs ≡ true
+unfolding same
+same-itself [] = refl
+same-itself (x ∷ xs) = rw (eq-eqb x x refl) (same-itself xs)
+
+-- nine bits and the opposite of b8 are ten bits
+ten-bits : (n : ℕ) → withOpposite (n % 512) ≤ 1023
+ten-bits n = let low : n % 512 < 512 = omega arith in ten (n % 512) low
+  where
+    ten : (m : ℕ) → m < 512 → withOpposite m ≤ 1023
+    ten m h = omega arith
+
+checksum-small : (words : List ℕ) → checksumOf words ≤ 1023
+unfolding checksumOf
+checksum-small words = ten-bits (sum9 (take 19 (drop 3 words)))
+
+-- elements within a limit stay so in a part
+drop-within : (limit n : ℕ) (words : List ℕ) → someAbove limit words ≡ false → someAbove limit (drop n words) ≡ false
+drop-within limit zero words e = e
+drop-within limit (suc n) [] e = e
+drop-within limit (suc n) (word ∷ words) e = drop-within limit n words (tail-within limit word words e)
+
+take-within : (limit n : ℕ) (words : List ℕ) → someAbove limit words ≡ false → someAbove limit (take n words) ≡ false
+unfolding someAbove
+take-within limit zero words e = refl
+take-within limit (suc n) [] e = e
+take-within limit (suc n) (word ∷ words) e =
+    within-cons limit word (take n words) (head-within limit word words e) (take-within limit n words (tail-within limit word words e))
+
+header-small : someAbove 1023 header ≡ false
+unfolding someAbove header
+header-small = refl
+
+length-header : length header ≡ 6
+unfolding header
+length-header = refl
+
+module _ (info type second : ℕ) where
+  abbrev datas : List ℕ
+  datas = dataWords (carriedOf type second) info
+
+  abbrev last : List ℕ
+  last = checksumOf (frontOf info type second) ∷ []
+
+  abbrev packet : List ℕ
+  packet = packetWith info type second
+
+  -- the packet as header, data words and checksum
+  in-parts : packet ≡ header ++ (datas ++ last)
+  unfolding packetWith frontOf
+  in-parts = append-assoc header datas last
+
+  length-datas : length datas ≡ 16
+  length-datas = length-dataWords (carriedOf type second) info ∙ length-carried type second
+
+  after-header : drop 6 packet ≡ datas ++ last
+  after-header = ap (drop 6) in-parts ∙ drop-at header (datas ++ last) 6 length-header
+
+  headed : isHeaded packet ≡ true
+  unfolding isHeaded
+  headed = rw (ap (take 6) in-parts ∙ take-at header (datas ++ last) 6 length-header) (same-itself header)
+
+  data-again : dataIn packet ≡ datas
+  data-again = ap (take 16) after-header ∙ take-at datas last 16 length-datas
+
+  first-eight : take 8 (drop 6 packet) ≡ dataWords (toBits 8 type) info
+  first-eight =
+      ap (take 8) after-header
+      ∙ take-append-le 8 datas last (rw length-datas (omega arith))
+      ∙ take-dataWords 8 (carriedOf type second) info
+      ∙ ap (λ (bits : List ℕ). dataWords bits info) (take-at (toBits 8 type) (toBits 8 second) 8 (length-toBits 8 type))
+
+  next-eight : take 8 (drop 14 packet) ≡ dataWords (toBits 8 second) (shifted 8 info)
+  next-eight =
+      let rest = dataWords (toBits 8 second) (shifted 8 info) in
+      let left : drop 8 datas ≡ rest =
+      drop-dataWords 8 (carriedOf type second) info
+      ∙ ap (λ (bits : List ℕ). dataWords bits (shifted 8 info)) (drop-at (toBits 8 type) (toBits 8 second) 8 (length-toBits 8 type)) in
+      let here : drop 14 packet ≡ rest ++ last =
+      sym (drop-drop 8 6 packet) ∙ ap (drop 8) after-header ∙ drop-append-le 8 datas last (rw length-datas (omega arith)) ∙ ap (λ (l : List ℕ). l ++ last) left in
+      ap (take 8) here ∙ take-at rest last 8 (length-dataWords (toBits 8 second) (shifted 8 info) ∙ length-toBits 8 second)
+
+  all-bits : AllBits (carriedOf type second)
+  all-bits = within-append 1 (toBits 8 type) (toBits 8 second) (bits-of-number 8 type) (bits-of-number 8 second)
+
+  every : AllMade (carriedOf type second) info datas
+  every = all-made (carriedOf type second) info all-bits
+
+  small : someAbove 1023 packet ≡ false
+  unfolding someAbove
+  small =
+      rw in-parts
+      (within-append 1023 header (datas ++ last) header-small
+      (within-append 1023 datas last (every .small) (within-cons 1023 (checksumOf (frontOf info type second)) [] (checksum-small (frontOf info type second)) refl)))
+
+  summed : getD packet 22 0 ≡ checksumOf packet
+  unfolding packetWith
+  summed =
+      let front = frontOf info type second in
+      getD-at front (checksumOf front) [] 0 22 (length-front info type second) ∙ sym (checksum-of-front front last (length-front info type second))
+
+  -- a packet that was written has the form of one
+  pub form-clear : (mode : ℕ) → ltb 2 mode ≡ false → Clear (formRefusals mode packet)
+  form-clear mode known = (
+    ap not (eq-eqb (length packet) 23 (length-packet info type second)),
+    (known, (small, (ap not headed, (rw (data-again, every .right, eq-eqb (getD packet 22 0) (checksumOf packet) summed), (rw data-again (every .low-clear), tt))))),
+  )
+
+  -- and reads as it was written
+  pub info-again : info < 2 ^ 64 → infoIn (dataIn packet) ≡ info
+  info-again low = rw data-again (every .info-again (rw (length-carried type second) low))
+
+  pub type-again : type < 256 → typeIn packet ≡ type
+  type-again low = rw first-eight (all-made (toBits 8 type) info (bits-of-number 8 type) .byte-again) ∙ value-toBits 8 type low
+
+  pub second-again : second < 256 → secondIn packet ≡ second
+  second-again low = rw next-eight (all-made (toBits 8 second) (shifted 8 info) (bits-of-number 8 second) .byte-again) ∙ value-toBits 8 second low
+
+-- eight bits in b3 are those of their byte
+eight-bits : (words : List ℕ) → length words ≡ 8 → toBits 8 (byteIn words) ≡ map bitIn words
+eight-bits words eight =
+    rw (byte-value words) (rw (length-map words bitIn, eight) at (toBits-value (map bitIn words) (carried-all-bits words)))
+
+-- words that have the form of a packet are those that are written for what they hold
+module _ (mode : ℕ) (words : List ℕ) (clear : Clear (formRefusals mode words)) where
+  size : length words ≡ 23
+  size = eqb-true (length words) 23 (not-false (eqb (length words) 23) (clear .0))
+
+  abbrev parts : List ℕ
+  parts = dataIn words
+
+  abbrev sum : List ℕ
+  sum = getD words 22 0 ∷ []
+
+  begins : take 6 words ≡ header
+  unfolding isHeaded
+  begins = same-elements (take 6 words) header (not-false (isHeaded words) (clear .1 .1 .1 .0))
+
+  five : (someWord wrongWord parts ≡ false) × (getD words 22 0 ≡ checksumOf words)
+  five =
+      let tests = neither (someWord wrongWord parts) (not (eqb (getD words 22 0) (checksumOf words))) (clear .1 .1 .1 .1 .0) in
+      (tests .0, eqb-true (getD words 22 0) (checksumOf words) (not-false _ (tests .1)))
+
+  ends : drop 16 (drop 6 words) ≡ sum
+  ends =
+      let none : drop 23 words ≡ [] = drop-of-length-le words {i = 23} (omega (arith, size)) in
+      drop-drop 16 6 words ∙ drop-cons words 22 0 (omega (arith, size)) ∙ rw none
+
+  in-pieces : words ≡ (header ++ parts) ++ sum
+  in-pieces =
+      sym (take-append-drop 6 words)
+      ∙ ap₂ (λ (xs ys : List ℕ). xs ++ ys) begins (sym (take-append-drop 16 (drop 6 words)) ∙ ap (λ (l : List ℕ). parts ++ l) ends)
+      ∙ sym (append-assoc header parts sum)
+
+  after : length (drop 6 words) ≡ 17
+  after = length-drop 6 words ∙ rw size
+
+  carried-again : carriedOf (typeIn words) (secondIn words) ≡ map bitIn parts
+  carried-again =
+      let later : drop 8 (drop 6 words) ≡ drop 14 words = drop-drop 8 6 words in
+      let long : length (drop 14 words) ≡ 9 = length-drop 14 words ∙ rw size in
+      let first = eight-bits (take 8 (drop 6 words)) (length-take-le 8 (drop 6 words) (omega (arith, after))) in
+      let next = eight-bits (take 8 (drop 14 words)) (length-take-le 8 (drop 14 words) (omega arith)) in
+      ap₂ (λ (xs ys : List ℕ). xs ++ ys) first next
+      ∙ sym (map-append bitIn (take 8 (drop 6 words)) (take 8 (drop 14 words)))
+      ∙ ap (map bitIn) (sym (take-add 8 8 (drop 6 words) ∙ ap (λ (l : List ℕ). take 8 (drop 6 words) ++ take 8 l) later))
+
+  front-again : frontOf (infoIn parts) (typeIn words) (secondIn words) ≡ header ++ parts
+  unfolding frontOf
+  front-again =
+      let within = take-within 1023 16 (drop 6 words) (drop-within 1023 6 words (clear .1 .1 .0)) in
+      rw carried-again (ap (λ (l : List ℕ). header ++ l) (all-again parts within (five .0) (clear .1 .1 .1 .1 .1 .0)))
+
+  pub packet-again : packetWith (infoIn parts) (typeIn words) (secondIn words) ≡ words
+  unfolding packetWith
+  packet-again =
+      let long : length (header ++ parts) ≡ 22 = length-append header parts ∙ rw (length-header, length-take-le 16 (drop 6 words) (omega (arith, after))) in
+      let check : checksumOf (header ++ parts) ≡ getD words 22 0 =
+      sym (checksum-of-front (header ++ parts) sum long) ∙ ap checksumOf (sym in-pieces) ∙ sym (five .1) in
+      rw (front-again, check) (sym in-pieces)
+
+  pub info-below : infoIn parts < 2 ^ 64
+  info-below = rw (length-take-le 16 (drop 6 words) (omega (arith, after))) at (gathered-below nibbleIn 16 (λ word. omega arith) parts)

@@ -1,0 +1,111 @@
+// From 23 words to record, type and second byte.
+ghost use mathlib.Core.Path.{_≡_};
+ghost use Prim.Native.Nat.{_≤_};
+ghost use lib.ListN.{length};
+ghost use Rattle.clock.specs.Calls.{verdictOf};
+ghost use Rattle.atc.specs.Words.{infoIn, byteIn};
+ghost use Rattle.atc.specs.Packet.{isHeaded};
+ghost use Rattle.atc.specs.Calls.{formRefusals, readOf};
+use crate::sweeps::checksum;
+use crate::sweeps::has_high_word;
+use crate::sweeps::has_low_bits;
+use crate::sweeps::has_wrong_word;
+use crate::types::Contents;
+use crate::types::Packet;
+use clock::Verdict;
+use record::Record;
+use record::Unpacked;
+
+// Whether the first six words are those of a packet.
+fn is_headed(words: &[u16]) -> bool
+    requires { ⌜ 6 ≤ length (now words) ⌝ }
+    ensures { λ r. ⌜ r ≡ isHeaded (now (words .entry)) ⌝ }
+{
+    (words[0] == 0x000)
+        & ((words[1] == 0x3FF)
+            & ((words[2] == 0x3FF)
+                & ((words[3] == 0x260) & ((words[4] == 0x260) & (words[5] == 0x110)))))
+}
+
+// Whether the words have the form of a packet, whatever they carry.
+fn judge(mode: u8, words: &[u16]) -> Verdict
+    ensures { λ r. ⌜ r ≡ verdictOf (formRefusals mode (now (words .entry))) ⌝ }
+{
+    if words.len() != 23 {
+        return Verdict::Refused(refusals::WRONG_LENGTH);
+    }
+    if 2 < mode {
+        return Verdict::Refused(refusals::MODE_ABOVE_2);
+    }
+    if has_high_word(words) {
+        return Verdict::Refused(refusals::ELEMENT_TOO_HIGH);
+    }
+    if !is_headed(words) {
+        return Verdict::Refused(refusals::WRONG_SYNC);
+    }
+    if has_wrong_word(&words[6..22]) {
+        return Verdict::Refused(refusals::WRONG_CHECK);
+    }
+    if words[22] != checksum(&words[3..22]) {
+        return Verdict::Refused(refusals::WRONG_CHECK);
+    }
+    if has_low_bits(&words[6..22]) {
+        return Verdict::Refused(refusals::LOW_BITS_SET);
+    }
+    Verdict::Sound
+}
+
+// The information bits of at most sixteen data words: four in each, in b4 to b7.
+fn info_in(words: &[u16]) -> u64
+    requires { ⌜ length (now words) ≤ 16 ⌝ }
+    ensures { λ r. ⌜ r ≡ infoIn (now (words .entry)) ⌝ }
+{
+    let mut info: u64 = 0;
+    let mut i = words.len();
+    while 0 < i {
+        i -= 1;
+        info = (words[i] / 16 % 16) as u64 + 16 * info;
+    }
+    info
+}
+
+// The byte that at most eight data words carry in b3.
+fn byte_in(words: &[u16]) -> u8
+    requires { ⌜ length (now words) ≤ 8 ⌝ }
+    ensures { λ r. ⌜ r ≡ byteIn (now (words .entry)) ⌝ }
+{
+    let mut byte: u8 = 0;
+    let mut i = words.len();
+    while 0 < i {
+        i -= 1;
+        byte = (words[i] / 8 % 2) as u8 + 2 * byte;
+    }
+    byte
+}
+
+pub fn read(mode: u8, words: &[u16]) -> Packet
+    ensures { λ r. ⌜ r ≡ readOf mode (now (words .entry)) ⌝ }
+{
+    let found = judge(mode, words);
+    match found {
+        Verdict::Refused(number) => Packet::Refused(number),
+        Verdict::Sound => {
+            let payload_type = byte_in(&words[6..14]);
+            if 2 < payload_type {
+                return Packet::Refused(refusals::TYPE_ABOVE_2);
+            }
+            let unpacked = record::from_bits(mode, info_in(&words[6..22]));
+            match unpacked {
+                Unpacked::Refused(number) => Packet::Refused(number),
+                Unpacked::Holds(record) => {
+                    let second = byte_in(&words[14..22]);
+                    Packet::Holds(Contents {
+                        record,
+                        payload_type,
+                        second,
+                    })
+                }
+            }
+        }
+    }
+}

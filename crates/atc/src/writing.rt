@@ -1,0 +1,87 @@
+// From record, type and second byte to 23 words.
+ghost use mathlib.Core.Path.{_≡_};
+ghost use lib.ListN.{length};
+ghost use Rattle.bits.specs.Bits.{toBits};
+ghost use Rattle.atc.specs.Words.{dataWords};
+ghost use Rattle.atc.specs.Packet.{header, packetWith};
+ghost use Rattle.atc.specs.Calls.{writtenOf, runOf};
+use crate::data_word;
+use crate::sweeps::checksum;
+use crate::types::Written;
+use record::Packed;
+use record::Record;
+
+// The first six words.
+fn store_header(run: &mut [u16])
+    requires { ⌜ length (now run) ≡ 6 ⌝ }
+    ensures { λ _. ⌜ now (run .exit) ≡ header ⌝ }
+{
+    run[0] = 0x000;
+    run[1] = 0x3FF;
+    run[2] = 0x3FF;
+    run[3] = 0x260;
+    run[4] = 0x260;
+    run[5] = 0x110;
+}
+
+// A data word to each element: the next four information bits, and the next bit of what b3 carries.
+fn store_data(info: u64, carried: u16, run: &mut [u16])
+    ensures { λ _. ⌜ now (run .exit) ≡ dataWords (toBits (length (now (run .entry))) carried) info ⌝ }
+{
+    let mut left = info;
+    let mut bits = carried;
+    let mut i = 0;
+    while i < run.len() {
+        let nibble = (left % 16) as u16;
+        run[i] = data_word(nibble, bits % 2);
+        left = left / 16;
+        bits = bits / 2;
+        i += 1;
+    }
+}
+
+// The whole packet into a run of its own length.
+fn store(info: u64, payload_type: u8, second: u8, run: &mut [u16])
+    requires { ⌜ length (now run) ≡ 23 ⌝ }
+    ensures { λ _. ⌜ now (run .exit) ≡ packetWith info «payload_type» second ⌝ }
+{
+    store_header(&mut run[0..6]);
+    let carried = payload_type as u16 + 256 * second as u16;
+    store_data(info, carried, &mut run[6..22]);
+    let sum = checksum(&run[3..22]);
+    run[22] = sum;
+}
+
+pub fn write(
+    mode: u8,
+    r: Record,
+    payload_type: u8,
+    second: u8,
+    start: usize,
+    run: &mut [u16],
+) -> Written
+    ensures { λ w. ⌜ (w ≡ writtenOf mode r «payload_type» start (now (run .entry)))
+        × (now (run .exit) ≡ runOf mode r «payload_type» second start (now (run .entry))) ⌝ }
+{
+    if 2 < mode {
+        return Written::Refused(refusals::MODE_ABOVE_2);
+    }
+    if 2 < payload_type {
+        return Written::Refused(refusals::TYPE_ABOVE_2);
+    }
+    let packed = record::to_bits(mode, r);
+    match packed {
+        Packed::Refused(number) => Written::Refused(number),
+        Packed::Bits(info) => {
+            if run.len() < 23 {
+                return Written::Refused(refusals::NO_ROOM);
+            }
+            if run.len() - 23 < start {
+                return Written::Refused(refusals::NO_ROOM);
+            }
+            let end = start + 23;
+            store(info, payload_type, second, &mut run[start..end]);
+            Written::Done
+        }
+    }
+}

@@ -1,0 +1,20 @@
+-- Lists     an element for each number below a count, and a test of each
+-- Stride    every eighth element: the ones of a remainder by 8
+-- Shape     how long the parts of a line are, and that they are bits
+-- Turns     the loops begin, go on and end
+-- Answers   a list of refusals that goes on in another
+pub mod Lists
+pub mod Stride
+pub mod Answers
+pub mod Shape
+pub mod Turns
+-- Crc       the eight bits that make every count even, and that no others do
+-- Standing  where the information bits and the pairs stand
+pub mod Crc
+pub mod Standing
+-- Whole     a line and its 64 bits, one to one
+pub mod Whole
+-- RoundTrip reading what was written, and writing what was read
+pub mod RoundTrip
+-- Rows      both lists of refusals stand in rising order
+pub mod Rows

@@ -1,0 +1,69 @@
+-- `vitc::reading::has_wrong_crc` meets its contract. At each turn none of the counts before the remainder's is odd.
+-- Assumes nothing.
+use mathlib.Core.Path.{_≡_, sym}
+use Prim.Native.Nat.{ℕ, _+_, _-_, _%_, _≤_, _<_}
+use mathlib.Core.Bool.{true, false}
+use native.Mathlib.Omega.{arith}
+use mathlib.Core.List.{List}
+use borrow.Author.Tests.{eq-eqb, ne-eqb}
+use Rattle.vitc.specs.Line.{onesAt, oddAt, wrongCrc}
+use Rattle.vitc.specs.Loops.{Testing}
+use Rattle.vitc.proofs.Lists.{some-of}
+use Rattle.vitc.proofs.Turns.{test-begins, test-turns}
+use Rattle.vitc.proofs.reading.has_wrong_crc.Statement.{statement}
+use Rattle.vitc.proofs.reading.has_wrong_crc.Tie as tie
+
+module _ (line : List ℕ) (remainder odd : ℕ) (t : Testing 8 (oddAt line) remainder) (counted : odd ≡ onesAt remainder line % 2) where
+  wrong : remainder < 8 → (odd ≡ 0 → ⊥) → true ≡ wrongCrc line
+  unfolding wrongCrc
+  wrong h e = sym (some-of (oddAt line) 8 remainder h (rw (← counted, ne-eqb odd 0 e)))
+
+  turned : remainder < 8 → odd ≡ 0 → Testing 8 (oddAt line) (remainder + 1)
+  turned h e = test-turns 8 (oddAt line) remainder t h (rw (← counted, eq-eqb odd 0 e))
+
+done : (line : List ℕ) (remainder : ℕ) → Testing 8 (oddAt line) remainder → 8 ≤ remainder → false ≡ wrongCrc line
+unfolding wrongCrc
+done line remainder t h =
+    let all : remainder ≡ 8 = omega (arith, t .within) in
+    sym ((rw all at t) .none)
+
+abbrev Inv-loop : tie.InvT-loop
+Inv-loop line remainder₀ remainder = Testing 8 (oddAt line) remainder
+
+abbrev μ-loop : tie.MeasureT-loop
+μ-loop line remainder₀ remainder = 8 - remainder
+
+loop-holds : tie.Need-loop-holds Inv-loop μ-loop
+loop-holds c = test-begins 8 _
+
+parity-requires : tie.Need-parity-requires Inv-loop μ-loop
+parity-requires c κs = (omega arith, (omega arith, c .before .before .before .pre .clean))
+
+returns : tie.Need-returns Inv-loop μ-loop
+returns c = search wrong
+
+add-remainder : tie.Need-add-remainder Inv-loop μ-loop
+add-remainder c = omega arith
+
+loop-less : tie.Need-loop-less Inv-loop μ-loop
+loop-less c = omega arith
+
+loop-again : tie.Need-loop-again Inv-loop μ-loop
+loop-again c = search turned
+
+returns-2 : tie.Need-returns-2 Inv-loop μ-loop
+returns-2 c = search done
+
+pub has-wrong-crc-spec : {M : Type 1} → statement M
+has-wrong-crc-spec =
+    tie.close
+    (tie.spec
+    Inv-loop
+    μ-loop
+    loop-holds
+    parity-requires
+    returns
+    add-remainder
+    loop-less
+    loop-again
+    returns-2)

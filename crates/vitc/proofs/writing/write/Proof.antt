@@ -1,0 +1,71 @@
+-- `vitc::writing::write` meets its contract: a record that cannot be packed is refused by its own list, and the rest is the room's.
+-- Assumes nothing.
+use mathlib.Core.Path.{_≡_, _∙_}
+use Prim.Native.Nat.{ℕ}
+use mathlib.Core.List.{List}
+use borrow.Author.Needs.{needs}
+use borrow.Author.Needs.{needs}
+use Rattle.record.specs.declared.types.Record.{Record}
+use Rattle.record.specs.declared.types.Packed.{Packed}
+use Rattle.record.specs.declared.types.Packed.the-variants.{Bits, Refused as Unpackable}
+use Rattle.record.specs.Calls.{packedOf}
+use Rattle.runs.specs.Run.{placed, runAfter}
+use Rattle.vitc.specs.declared.writing.Written.{Written}
+use Rattle.vitc.specs.declared.writing.Written.the-variants.{Done, Refused}
+use Rattle.vitc.specs.Line.{lineOf}
+use Rattle.vitc.specs.Calls.{roomRefusals, lineRefusals, writtenOf, placedOf, runWith}
+use Rattle.vitc.proofs.Answers.{refused-first, passed-first, info-packed}
+use Rattle.vitc.proofs.writing.write.Statement.{statement}
+use Rattle.vitc.proofs.writing.write.Tie as tie
+
+module _ (mode start : ℕ) (r : Record) (run : List ℕ) (packed : Packed) (asked : packed ≡ packedOf mode r) where
+  not-packed : (n : ℕ) → packed ≡ Unpackable n → Refused n ≡ writtenOf mode r start run
+  unfolding writtenOf
+  not-packed n e = refused-first mode r packed asked Refused (roomRefusals start run) Done n e
+
+  left-alone : (n : ℕ) → packed ≡ Unpackable n → run ≡ runAfter (lineRefusals mode r start run) start (lineOf mode r) run
+  left-alone n e = refused-first mode r packed asked (λ (m : ℕ). run) (roomRefusals start run) (placed start (lineOf mode r) run) n e
+
+  module _ (info : ℕ) (bits : packed ≡ Bits info) where
+    by-room : (a : Written) → a ≡ placedOf start run → a ≡ writtenOf mode r start run
+    unfolding writtenOf
+    by-room a e = e ∙ passed-first mode r packed asked Refused (roomRefusals start run) Done info bits
+
+    stored : (out : List ℕ) → out ≡ runWith info start run → out ≡ runAfter (lineRefusals mode r start run) start (lineOf mode r) run
+    unfolding lineOf
+    stored out e =
+        (rw (← info-packed mode r packed asked info bits) at e)
+        ∙ passed-first mode r packed asked (λ (m : ℕ). run) (roomRefusals start run) (placed start (lineOf mode r) run) info bits
+
+to-bits-requires : tie.Need-to-bits-requires
+to-bits-requires c κs = search needs
+
+enum-known-packed : tie.Need-enum-known-packed
+enum-known-packed c = search needs
+
+enum-known-packed-2 : tie.Need-enum-known-packed-2
+enum-known-packed-2 c = search needs
+
+place-requires : tie.Need-place-requires
+place-requires c κs = search needs
+
+returns : tie.Need-returns
+returns c = (search not-packed, search left-alone)
+
+same-length : tie.Need-same-length
+same-length c = search needs
+
+returns-2 : tie.Need-returns-2
+returns-2 c = (search by-room, search stored)
+
+pub write-spec : {M : Type 1} → statement M
+write-spec =
+    tie.close
+    (tie.spec
+    to-bits-requires
+    enum-known-packed
+    enum-known-packed-2
+    place-requires
+    returns
+    same-length
+    returns-2)
