@@ -8,5 +8,7 @@ pub mod Marked
 pub mod Words
 -- Evened    the polarity bit makes the zeros even, and only one of its two values does
 pub mod Evened
+-- Rows      the lists of refusals stand in the table's order
+pub mod Rows
 -- RoundTrip accepted words and acceptable records match one to one
 pub mod RoundTrip

@@ -34,11 +34,11 @@ unfoldable pub readOf : ℕ → List ℕ → Unpacked
 readOf mode word = answer Unheld (readRefusals mode word) (Holds (marked No (recordOf mode (infoIn word))))
 
 -- the same of 64 information bits after which the sync word has been seen
+abbrev pub heardRefusals : ℕ → ℕ → List Refusal
+heardRefusals mode info = withMode mode ((wrong-check when oddZeros (wordWith info)) ∷ bitsRefusals mode info)
+
 unfoldable pub heardOf : ℕ → ℕ → Unpacked
-heardOf mode info =
-    answer Unheld
-    (withMode mode ((wrong-check when oddZeros (wordWith info)) ∷ bitsRefusals mode info))
-    (Holds (marked No (recordOf mode info)))
+heardOf mode info = answer Unheld (heardRefusals mode info) (Holds (marked No (recordOf mode info)))
 
 -- writing: 2; 8, 9 and 10 of the record; 11 a mark; 12 no room for 80 elements from the start
 unfoldable pub writtenRows : ℕ → Record → ℕ → List ℕ → List Refusal

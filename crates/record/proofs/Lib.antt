@@ -6,6 +6,8 @@ pub mod Judged
 pub mod Accepted
 -- Fields    fields side by side, for every list of widths
 pub mod Fields
+-- Rows      the list of refusals stands in the table's order
+pub mod Rows
 -- RoundTrip reading what was written, and writing what was read
 pub mod RoundTrip
 -- Told      a carrier that takes its refusals from the record's answer refuses as its own list says

@@ -8,6 +8,7 @@ use native.Mathlib.Omega.{arith}
 use lib.Dec.{ltb, eqb}
 use lib.ListN.{length}
 use borrow.Author.Tests.{eq-eqb, eqb-true, le-ltb}
+use Rattle.refusals.specs.Answer.{Rising}
 use Rattle.refusals.proofs.Lowest.{accepted-as}
 use Rattle.bits.specs.Bits.{value, someAbove}
 use Rattle.runs.specs.declared.carry.Gathered.{Gathered}
@@ -40,6 +41,10 @@ not-same xs ys other = go (same xs ys) refl
     go : (t : Bool) → same xs ys ≡ t → same xs ys ≡ false
     go true e = absurd (other (same-elements xs ys e))
     go false e = e
+
+-- "the lowest that applies is given"
+pub gather-rows-rise : (run : List ℕ) → Rising (gatherRefusals run)
+gather-rows-rise run = omega arith
 
 numberIn : Gathered → ℕ
 numberIn (Number n) = n

@@ -12,7 +12,7 @@ use lib.ListN.{length, take, drop}
 use borrow.Author.Tests.{eq-eqb, eqb-true, not-false, le-ltb}
 use Rattle.refusals.specs.Answer.{Clear}
 use Rattle.refusals.proofs.Lowest.{otherwise-accepted, accepted-as}
-use Rattle.runs.specs.Run.{placed, runAfter}
+use Rattle.runs.specs.Run.{placed}
 use Rattle.runs.proofs.Parts.{read-back}
 use Rattle.record.specs.declared.types.Record.{Record}
 use Rattle.record.specs.declared.types.Unpacked.the-variants.{Holds, Refused as Unheld}
@@ -22,7 +22,7 @@ use Rattle.record.specs.Calls.{withMode, bitsRefusals, writeRefusals, packedOf,
 use Rattle.record.proofs.RoundTrip.{information, one-to-one as bits-one-to-one}
 use Rattle.vitc.specs.declared.writing.Written.the-variants.{Done, Refused}
 use Rattle.vitc.specs.Line.{infoIn, lineWith, lineOf}
-use Rattle.vitc.specs.Calls.{readRefusals, readOf, lineRefusals, writtenOf}
+use Rattle.vitc.specs.Calls.{readRefusals, readOf, writtenRows, writtenOf, runOf}
 use Rattle.vitc.proofs.Shape.{length-line}
 use Rattle.vitc.proofs.Whole.{Sound, info-below, line-one-to-one}
 
@@ -89,30 +89,48 @@ module _ (mode : ℕ) (r : Record) (line : List ℕ) where
           let same : infoOf mode r ≡ infoIn line = cc (taken .1) in
           (taken .0, ap lineWith same ∙ line-one-to-one (infoIn line) line small .1 (both .0, refl))
 
+-- a record that was read is refused nowhere, where there is room
+read-clear :
+    (mode : ℕ) (r : Record) (start : ℕ) (run line : List ℕ) → start + 90 ≤ length run → readOf mode line ≡ Holds r → Clear (writtenRows mode r start run)
+read-clear mode r start run line room e =
+    let c = made-reads mode r line .1 e .0 in
+    (c .0, (c .1 .0, (c .1 .1 .0, (c .1 .1 .1 .0, (le-ltb (length run) (start + 90) room, tt)))))
+
 -- said of the calls: where there is room, the write is done and leaves these 90 elements exactly where they read as the record
 pub one-to-one : (mode : ℕ) (r : Record) (start : ℕ) (run line : List ℕ) → start + 90 ≤ length run
-    → ((writtenOf mode r start run ≡ Done) × (take 90 (drop start (runAfter (lineRefusals mode r start run) start (lineOf mode r) run)) ≡ line))
+    → ((writtenOf mode r start run ≡ Done) × (take 90 (drop start (runOf mode r start run)) ≡ line))
     ↔ (readOf mode line ≡ Holds r)
 unfolding writtenOf lineOf
 one-to-one mode r start run line room = (there, back)
   where
     after : List ℕ
-    after = runAfter (lineRefusals mode r start run) start (lineOf mode r) run
+    after = runOf mode r start run
 
-    stored : Clear (lineRefusals mode r start run) → take 90 (drop start after) ≡ lineOf mode r
+    stored : Clear (writtenRows mode r start run) → take 90 (drop start after) ≡ lineOf mode r
     stored clear =
         ap (λ (l : List ℕ). take 90 (drop start l))
-        (otherwise-accepted (λ (n : ℕ). run) (placed start (lineOf mode r) run) (lineRefusals mode r start run) clear)
+        (otherwise-accepted (λ (n : ℕ). run) (placed start (lineOf mode r) run) (writtenRows mode r start run) clear)
         ∙ (rw (length-line (infoOf mode r)) at (read-back start (lineOf mode r) run (omega arith)))
 
     there : (writtenOf mode r start run ≡ Done) × (take 90 (drop start after) ≡ line) → readOf mode line ≡ Holds r
     there h =
-        let clear = accepted-as Refused Done (lineRefusals mode r start run) Done not-done (h .0) .0 in
+        let clear = accepted-as Refused Done (writtenRows mode r start run) Done not-done (h .0) .0 in
         made-reads mode r line .0 ((clear .0, (clear .1 .0, (clear .1 .1 .0, (clear .1 .1 .1 .0, tt)))), sym (stored clear) ∙ h .1)
 
     back : readOf mode line ≡ Holds r → (writtenOf mode r start run ≡ Done) × (take 90 (drop start after) ≡ line)
     back e =
         let made = made-reads mode r line .1 e in
-        let c = made .0 in
-        let clear : Clear (lineRefusals mode r start run) = (c .0, (c .1 .0, (c .1 .1 .0, (c .1 .1 .1 .0, (le-ltb (length run) (start + 90) room, tt))))) in
-        (otherwise-accepted Refused Done (lineRefusals mode r start run) clear, stored clear ∙ made .1)
+        let clear = read-clear mode r start run line room e in
+        (otherwise-accepted Refused Done (writtenRows mode r start run) clear, stored clear ∙ made .1)
+
+-- and the write of a record that was read leaves the line that it was read from, and no other element changed
+pub read-writes :
+    (mode : ℕ) (r : Record) (start : ℕ) (run line : List ℕ) → start + 90 ≤ length run → readOf mode line ≡ Holds r
+    → (writtenOf mode r start run ≡ Done) × (runOf mode r start run ≡ placed start line run)
+unfolding writtenOf
+read-writes mode r start run line room e =
+    let clear = read-clear mode r start run line room e in (
+      otherwise-accepted Refused Done (writtenRows mode r start run) clear,
+      otherwise-accepted (λ (n : ℕ). run) (placed start (lineOf mode r) run) (writtenRows mode r start run) clear
+          ∙ ap (λ (l : List ℕ). placed start l run) (made-reads mode r line .1 e .1),
+    )

@@ -16,7 +16,7 @@ use Rattle.record.specs.Record.{recordOf}
 use Rattle.record.specs.Calls.{withMode, bitsRefusals, writeRefusals}
 use Rattle.vitc.specs.declared.writing.Written.{Written}
 use Rattle.vitc.specs.declared.writing.Written.the-variants.{Done, Refused}
-use Rattle.vitc.specs.Line.{infoIn, wrongPair, wrongCrc, lineWith}
+use Rattle.vitc.specs.Line.{infoIn, wrongPair, wrongCrc, lineWith, lineOf}
 
 -- 1 not exactly 90 elements; 2 the mode; 3 an element above 1; 4 a sync pair is wrong; 5 CRC; then those of the 64 bits
 abbrev pub readRefusals : ℕ → List ℕ → List Refusal
@@ -36,15 +36,19 @@ abbrev pub roomRefusals : ℕ → List ℕ → List Refusal
 roomRefusals start run = (no-room when noRoom 90 start run) ∷ []
 
 -- 2 the mode; those of the record; 12
-abbrev pub lineRefusals : ℕ → Record → ℕ → List ℕ → List Refusal
-lineRefusals mode r start run = withMode mode (writeRefusals mode r) ++ roomRefusals start run
+abbrev pub writtenRows : ℕ → Record → ℕ → List ℕ → List Refusal
+writtenRows mode r start run = withMode mode (writeRefusals mode r) ++ roomRefusals start run
 
 unfoldable pub writtenOf : ℕ → Record → ℕ → List ℕ → Written
-writtenOf mode r start run = answer Refused (lineRefusals mode r start run) Done
+writtenOf mode r start run = answer Refused (writtenRows mode r start run) Done
+
+-- the lent run as a write leaves it
+abbrev pub runOf : ℕ → Record → ℕ → List ℕ → List ℕ
+runOf mode r start run = runAfter (writtenRows mode r start run) start (lineOf mode r) run
 
 -- the same of a line whose 64 bits are known
-abbrev pub placedOf : ℕ → List ℕ → Written
-placedOf start run = answer Refused (roomRefusals start run) Done
+abbrev pub doneOf : ℕ → List ℕ → Written
+doneOf start run = answer Refused (roomRefusals start run) Done
 
 abbrev pub runWith : ℕ → ℕ → List ℕ → List ℕ
 runWith info start run = runAfter (roomRefusals start run) start (lineWith info) run

@@ -1,11 +1,10 @@
 // From a record to a line in the middle of a lent run.
 ghost use mathlib.Core.Path.{_≡_};
 ghost use lib.ListN.{length};
-ghost use Rattle.runs.specs.Run.{runAfter};
 ghost use Rattle.bits.specs.Bits.{value};
-ghost use Rattle.vitc.specs.Line.{crcOf, groups, lineWith, lineOf};
+ghost use Rattle.vitc.specs.Line.{crcOf, groups, lineWith};
 ghost use Rattle.vitc.specs.Loops.{BitRun};
-ghost use Rattle.vitc.specs.Calls.{writtenOf, lineRefusals, placedOf, runWith};
+ghost use Rattle.vitc.specs.Calls.{writtenOf, runOf, doneOf, runWith};
 use crate::parity;
 use record::Packed;
 use record::Record;
@@ -59,7 +58,7 @@ fn write_line(info: u64, line: &mut [u8])
 
 // A line of known information bits, from the start on, where there is room.
 fn place(info: u64, start: usize, run: &mut [u8]) -> Written
-    ensures { λ a. ⌜ (a ≡ placedOf start (now (run .entry))) × (now (run .exit) ≡ runWith info start (now (run .entry))) ⌝ }
+    ensures { λ a. ⌜ (a ≡ doneOf start (now (run .entry))) × (now (run .exit) ≡ runWith info start (now (run .entry))) ⌝ }
 {
     if run.len() < 90 {
         return Written::Refused(refusals::NO_ROOM);
@@ -73,7 +72,7 @@ fn place(info: u64, start: usize, run: &mut [u8]) -> Written
 }
 
 pub fn write(mode: u8, r: Record, start: usize, run: &mut [u8]) -> Written
-    ensures { λ a. ⌜ (a ≡ writtenOf mode r start (now (run .entry))) × (now (run .exit) ≡ runAfter (lineRefusals mode r start (now (run .entry))) start (lineOf mode r) (now (run .entry))) ⌝ }
+    ensures { λ a. ⌜ (a ≡ writtenOf mode r start (now (run .entry))) × (now (run .exit) ≡ runOf mode r start (now (run .entry))) ⌝ }
 {
     let packed = record::to_bits(mode, r);
     match packed {

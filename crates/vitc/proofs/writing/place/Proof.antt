@@ -12,21 +12,21 @@ use borrow.Author.Needs.{needs}
 use Rattle.runs.proofs.Parts.{put-is-placed}
 use Rattle.vitc.specs.declared.writing.Written.the-variants.{Done, Refused}
 use Rattle.vitc.specs.Line.{lineWith}
-use Rattle.vitc.specs.Calls.{placedOf, runWith}
+use Rattle.vitc.specs.Calls.{doneOf, runWith}
 use Rattle.vitc.proofs.Shape.{length-line}
 use Rattle.vitc.proofs.writing.place.Statement.{statement}
 use Rattle.vitc.proofs.writing.place.Tie as tie
 
 module _ (info start : ℕ) (run : List ℕ) where
-  no-line : length run < 90 → (Refused 12 ≡ placedOf start run) × (run ≡ runWith info start run)
+  no-line : length run < 90 → (Refused 12 ≡ doneOf start run) × (run ≡ runWith info start run)
   no-line h = let none = lt-ltb (length run) (start + 90) (omega arith) in (rw none, rw none)
 
-  too-far : 90 ≤ length run → length run - 90 < start → (Refused 12 ≡ placedOf start run) × (run ≡ runWith info start run)
+  too-far : 90 ≤ length run → length run - 90 < start → (Refused 12 ≡ doneOf start run) × (run ≡ runWith info start run)
   too-far h far = let none = lt-ltb (length run) (start + 90) (omega arith) in (rw none, rw none)
 
   stored :
       (line : List ℕ) → 90 ≤ length run → start ≤ length run - 90 → line ≡ lineWith info
-      → (Done ≡ placedOf start run) × (putMid start ((start + 90) - start) run line ≡ runWith info start run)
+      → (Done ≡ doneOf start run) × (putMid start ((start + 90) - start) run line ≡ runWith info start run)
   stored line h near is =
       let room = le-ltb (length run) (start + 90) (omega arith) in
       (rw room, rw (room, is) (put-is-placed start (lineWith info) run 90 (length-line info)))

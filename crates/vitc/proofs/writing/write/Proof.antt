@@ -4,16 +4,15 @@ use mathlib.Core.Path.{_≡_, _∙_}
 use Prim.Native.Nat.{ℕ}
 use mathlib.Core.List.{List}
 use borrow.Author.Needs.{needs}
-use borrow.Author.Needs.{needs}
 use Rattle.record.specs.declared.types.Record.{Record}
 use Rattle.record.specs.declared.types.Packed.{Packed}
 use Rattle.record.specs.declared.types.Packed.the-variants.{Bits, Refused as Unpackable}
 use Rattle.record.specs.Calls.{packedOf}
-use Rattle.runs.specs.Run.{placed, runAfter}
+use Rattle.runs.specs.Run.{placed}
 use Rattle.vitc.specs.declared.writing.Written.{Written}
 use Rattle.vitc.specs.declared.writing.Written.the-variants.{Done, Refused}
 use Rattle.vitc.specs.Line.{lineOf}
-use Rattle.vitc.specs.Calls.{roomRefusals, lineRefusals, writtenOf, placedOf, runWith}
+use Rattle.vitc.specs.Calls.{roomRefusals, writtenRows, writtenOf, runOf, doneOf, runWith}
 use Rattle.vitc.proofs.Answers.{refused-first, passed-first, info-packed}
 use Rattle.vitc.proofs.writing.write.Statement.{statement}
 use Rattle.vitc.proofs.writing.write.Tie as tie
@@ -23,15 +22,15 @@ module _ (mode start : ℕ) (r : Record) (run : List ℕ) (packed : Packed) (ask
   unfolding writtenOf
   not-packed n e = refused-first mode r packed asked Refused (roomRefusals start run) Done n e
 
-  left-alone : (n : ℕ) → packed ≡ Unpackable n → run ≡ runAfter (lineRefusals mode r start run) start (lineOf mode r) run
+  left-alone : (n : ℕ) → packed ≡ Unpackable n → run ≡ runOf mode r start run
   left-alone n e = refused-first mode r packed asked (λ (m : ℕ). run) (roomRefusals start run) (placed start (lineOf mode r) run) n e
 
   module _ (info : ℕ) (bits : packed ≡ Bits info) where
-    by-room : (a : Written) → a ≡ placedOf start run → a ≡ writtenOf mode r start run
+    by-room : (a : Written) → a ≡ doneOf start run → a ≡ writtenOf mode r start run
     unfolding writtenOf
     by-room a e = e ∙ passed-first mode r packed asked Refused (roomRefusals start run) Done info bits
 
-    stored : (out : List ℕ) → out ≡ runWith info start run → out ≡ runAfter (lineRefusals mode r start run) start (lineOf mode r) run
+    stored : (out : List ℕ) → out ≡ runWith info start run → out ≡ runOf mode r start run
     unfolding lineOf
     stored out e =
         (rw (← info-packed mode r packed asked info bits) at e)
