@@ -2,7 +2,7 @@
 -- Assumes nothing.
 use Prim.Native.Nat.{ℕ, _+_, _*_, _/_, _%_, _<_}
 use mathlib.Core.Path.{_≡_, sym, ap, _∙_}
-use mathlib.Core.List.{[], append-nil}
+use mathlib.Core.List.{append-nil}
 use native.Mathlib.Omega.{arith}
 use lib.Count.{ones as counted}
 use Rattle.bits.specs.Bits.{toBits, ones}

@@ -4,7 +4,7 @@ use Prim.Native.Nat.{ℕ, suc, _+_, _-_, _*_, _/_, _%_, _^_, _≤_, _<_}
 use mathlib.Core.Path.{_≡_, refl, sym, ap, _∙_}
 use mathlib.Core.Bool.{Bool, true, false, _||_}
 use mathlib.Core.List.{List, [], _∷_, append-nil, append-assoc}
-use native.Mathlib.Nat.{sub-zero, pow-zero, pow-suc, add-comm, mul-comm}
+use native.Mathlib.Nat.{sub-zero, pow-zero, pow-suc, pow-le-pow-right, lt-of-lt-of-le, add-comm, mul-comm}
 use native.Mathlib.Numerals.{add-one}
 use native.Mathlib.Omega.{arith}
 use lib.Arith.{digits-lt}
@@ -54,17 +54,24 @@ module _ (part : ℕ → ℕ) (base : ℕ) where
     unfolding gathered
     gather-begins = record { within = omega arith; so-far = rw drop-length }
 
-    pub gather-turns :
-        (number j : ℕ) → Gathering part base words number (suc j)
-        → Gathering part base words (part (getD words j 0) + base * number) j
-    unfolding gathered
-    gather-turns number j g = record { within = omega arith; so-far = rw (drop-cons words j 0 (g .within), ← g .so-far) }
+    module _ (number i : ℕ) (g : Gathering part base words number i) where
+      -- there is room for one digit more
+      pub gather-room : (most : ℕ) → 0 < base → ((word : ℕ) → part word < base) → 0 < i → length words ≤ suc most → number < base ^ most
+      gather-room most some low more short =
+          let few : length words - i ≤ most = omega arith in
+          let below : number < base ^ (length words - i) = rw (g .so-far, ← length-drop i words) (gathered-below low (drop i words)) in
+          lt-of-lt-of-le below (pow-le-pow-right some few)
 
-    pub gather-below : ((word : ℕ) → part word < base) → (number i : ℕ) → Gathering part base words number i → number < base ^ (length words - i)
-    gather-below low number i g = rw (g .so-far, ← length-drop i words) (gathered-below low (drop i words))
+      pub gather-turns : 0 < i → Gathering part base words (part (getD words (i - 1) 0) + base * number) (i - 1)
+      unfolding gathered
+      gather-turns some =
+          let same : suc (i - 1) ≡ i = omega arith in
+          let here : drop (i - 1) words ≡ getD words (i - 1) 0 ∷ drop i words =
+          rw same at (drop-cons words (i - 1) 0 (omega (arith, g .within))) in
+          record { within = omega (arith, g .within); so-far = rw (here, ← g .so-far) }
 
-    pub gather-ends : (number : ℕ) → Gathering part base words number 0 → number ≡ gathered part base words
-    gather-ends number g = g .so-far
+      pub gather-ends : i ≤ 0 → number ≡ gathered part base words
+      gather-ends none = let zero : i ≡ 0 = omega arith in rw zero at (g .so-far)
 
 module _ (words : List ℕ) where
   pub sum-begins : Summing words 0 0

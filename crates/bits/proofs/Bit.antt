@@ -1,12 +1,12 @@
 -- An element of a list of bits is 0 or 1; a number's bit list is a list of bits, as long as its width.
 -- Assumes nothing.
-use Prim.Native.Nat.{ℕ, zero, suc, _/_, _%_, _<_, _≤_}
+use Prim.Native.Nat.{ℕ, zero, suc, _/_, _%_, _≤_}
 use mathlib.Core.Path.{_≡_, refl, sym, ap, _∙_}
 use mathlib.Core.Bool.{false, _||_, or-assoc}
 use mathlib.Core.List.{List, [], _∷_, _++_}
 use native.Mathlib.Omega.{arith}
 use lib.Dec.{ltb}
-use lib.ListN.{length}
+use lib.ListN.{length, take, drop}
 use borrow.Author.Tests.{le-ltb, ltb-false}
 use Rattle.refusals.proofs.Lowest.{neither}
 use Rattle.bits.specs.Bits.{toBits, someAbove, AllBits}
@@ -22,6 +22,18 @@ tail-within limit element elements e = neither (ltb limit element) (someAbove li
 pub within-cons : (limit element : ℕ) (elements : List ℕ) → element ≤ limit → someAbove limit elements ≡ false → someAbove limit (element ∷ elements) ≡ false
 unfolding someAbove
 within-cons limit element elements h e = rw (le-ltb limit element h) e
+
+pub within-drop : (limit n : ℕ) (elements : List ℕ) → someAbove limit elements ≡ false → someAbove limit (drop n elements) ≡ false
+within-drop limit zero elements e = e
+within-drop limit (suc n) [] e = e
+within-drop limit (suc n) (element ∷ elements) e = within-drop limit n elements (tail-within limit element elements e)
+
+pub within-take : (limit n : ℕ) (elements : List ℕ) → someAbove limit elements ≡ false → someAbove limit (take n elements) ≡ false
+unfolding someAbove
+within-take limit zero elements e = refl
+within-take limit (suc n) [] e = refl
+within-take limit (suc n) (element ∷ elements) e =
+    within-cons limit element (take n elements) (head-within limit element elements e) (within-take limit n elements (tail-within limit element elements e))
 
 pub bits-of-number : (width n : ℕ) → AllBits (toBits width n)
 unfolding toBits someAbove

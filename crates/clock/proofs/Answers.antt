@@ -6,7 +6,7 @@ use mathlib.Core.Bool.{Bool, true, false, _&&_, true≢false}
 use mathlib.Core.Logic.{_↔_, _⊎_, inl, inr}
 use native.Mathlib.Omega.{arith}
 use native.Mathlib.Nat.{mod-eq-of-lt}
-use lib.Dec.{ltb, leb, eqb, lit<}
+use lib.Dec.{ltb, eqb, lit<}
 use borrow.Author.Tests.{ltb-false, leb-false, lt-leb}
 use Rattle.refusals.specs.Answer.{Clear, Rising}
 use Rattle.refusals.proofs.Lowest.{neither, otherwise-accepted, accepted-as, carried}

@@ -1,16 +1,12 @@
 -- The ways of counting: a rate that skips nothing, and 30 with drop-frame. What the laws of the clock rest on, for every way of counting.
 -- Assumes nothing.
-use Prim.Native.Nat.{ℕ, suc, _+_, _-_, _*_, _/_, _%_, _<_, _≤_}
+use Prim.Native.Nat.{ℕ, _+_, _-_, _*_, _/_, _%_, _<_}
 use mathlib.Core.Path.{_≡_, refl, sym, ap, _∙_}
 use mathlib.Core.Bool.{Bool, true, false, _&&_}
 use native.Mathlib.Omega.{arith}
 use native.Mathlib.Nat.{add-zero, sub-zero}
-use lib.Dec.{ltb, eqb, lit<}
-use borrow.Author.Tests.{ltb-true, eq-eqb, ne-eqb}
+use lib.Dec.{lit<}
 use Rattle.clock.specs.declared.types.Address.{Address}
-use Rattle.clock.specs.declared.types.Flag.{Flag}
-use Rattle.clock.specs.declared.types.Flag.the-variants.{No, Yes}
-use Rattle.clock.specs.Modes.{isYes, framesInSecond, framesInDay}
 use Rattle.clock.specs.Clock.{skipped, pastSkipped}
 use Rattle.clock.specs.Counting.{dayOf, minutesOf, placeOf, countOf, placeAt, faceAt}
 use Rattle.clock.proofs.Face.{Inside, place-of-face, place-below, face-of-place}

@@ -1,6 +1,6 @@
 -- What the clock shows is the closed form, and numbers and addresses match one to one: for every way of counting from one statement.
 -- Assumes nothing.
-use Prim.Native.Nat.{ℕ, zero, suc, _+_, _*_, _%_, _<_}
+use Prim.Native.Nat.{ℕ, zero, suc, _+_, _%_, _<_}
 use mathlib.Core.Path.{_≡_, refl, sym, ap, _∙_}
 use mathlib.Core.Bool.{Bool, true, false, _&&_, _||_, true≢false}
 use native.Mathlib.Omega.{arith}
@@ -10,7 +10,7 @@ use Rattle.refusals.proofs.Lowest.{neither}
 use Rattle.clock.specs.declared.types.Address.{Address}
 use Rattle.clock.specs.Clock.{midnight, outside, skipped, step, stepped, shown}
 use Rattle.clock.specs.Counting.{dayOf, countOf, addressAt, faceAt, placeAt}
-use Rattle.clock.proofs.Face.{Inside, inside, inside-not-outside, face-inside, face-of-place, frame-on}
+use Rattle.clock.proofs.Face.{inside, inside-not-outside, face-inside, face-of-place, frame-on}
 use Rattle.clock.proofs.Rate.{Rate, plain, drops, some-frames, kept, counted}
 
 -- an address that the clock never shows: a field is outside the clock, or it is one of the skipped ones

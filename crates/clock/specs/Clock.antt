@@ -1,7 +1,7 @@
 -- The clock of document 01, "The clock": the standard's one-frame step, and what n steps from midnight show.
 -- Assumes nothing.
 use Prim.Native.Nat.{ℕ, zero, suc, _+_, _%_}
-use mathlib.Core.Bool.{Bool, true, false, not, _&&_, _||_, cond}
+use mathlib.Core.Bool.{Bool, not, _&&_, _||_, cond}
 use lib.Dec.{ltb, leb, eqb}
 use Rattle.clock.specs.declared.types.Address.{Address}
 

@@ -1,27 +1,25 @@
 -- A word of 80 bits that ends in the sync word is heard as its information bits.
 -- Assumes nothing.
-use Prim.Native.Nat.{ℕ, _-_, _<_, _≤_}
+use Prim.Native.Nat.{ℕ, _-_}
 use mathlib.Core.Path.{_≡_, refl, sym, ap, ap₂, _∙_}
-use mathlib.Core.Bool.{Bool, true, false, not, _||_}
+use mathlib.Core.Bool.{false, _||_}
 use mathlib.Core.List.{List, _++_}
 use native.Mathlib.Omega.{arith}
-use lib.Dec.{ltb, eqb}
-use lib.ListN.{length, take, drop, length-take, length-drop, take-append-drop}
+use lib.ListN.{length, take, drop, length-drop, take-append-drop}
 use lib.Seq.{length-take-le}
-use Rattle.refusals.proofs.Lowest.{neither, carried}
+use Rattle.refusals.proofs.Lowest.{carried}
 use Rattle.bits.specs.Bits.{value, toBits, someAbove}
 use Rattle.bits.proofs.Bit.{above-append}
 use Rattle.bits.proofs.Inverse.{toBits-value}
 use Rattle.runs.specs.Run.{same}
-use Rattle.runs.proofs.Same.{same-itself, not-same}
+use Rattle.runs.proofs.Same.{not-same}
 use Rattle.clock.specs.declared.types.Flag.the-variants.{No}
-use Rattle.record.specs.declared.types.Record.{Record}
 use Rattle.record.specs.declared.types.Unpacked.{Unpacked}
 use Rattle.record.specs.declared.types.Unpacked.the-variants.{Holds, Refused as Unheld}
 use Rattle.record.specs.Record.{recordOf, marked}
 use Rattle.record.specs.Calls.{bitsRefusals, withMode, unpackedOf}
 use Rattle.ltc.specs.Word.{syncWord, wordWith, infoIn, oddZeros}
-use Rattle.ltc.specs.Calls.{readOf, heardOf}
+use Rattle.ltc.specs.Calls.{heardOf}
 
 -- an answer with the mark taken off its record
 abbrev pub unmarked : Unpacked → Unpacked

@@ -12,3 +12,5 @@ pub mod Evened
 pub mod Rows
 -- RoundTrip accepted words and acceptable records match one to one
 pub mod RoundTrip
+-- Apart     places of an accepted word at which it has not both this bit and the next set
+pub mod Apart

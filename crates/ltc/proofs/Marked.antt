@@ -1,7 +1,7 @@
 -- A mark said anew changes no refusal.
 -- Assumes nothing.
 use Prim.Native.Nat.{ℕ}
-use mathlib.Core.Path.{_≡_, ap}
+use mathlib.Core.Path.{_≡_}
 use Rattle.refusals.proofs.Lowest.{otherwise-accepted}
 use Rattle.clock.specs.declared.types.Flag.{Flag}
 use Rattle.record.specs.declared.types.Record.{Record}

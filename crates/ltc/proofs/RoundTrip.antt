@@ -3,12 +3,12 @@
 -- Assumes nothing.
 use Prim.Native.Nat.{ℕ, _+_, _^_, _<_, _≤_}
 use mathlib.Core.Path.{_≡_, refl, sym, ap, subst, _∙_}
-use mathlib.Core.Bool.{Bool, true, false, true≢false}
-use mathlib.Core.List.{List, _++_}
+use mathlib.Core.Bool.{true, false, true≢false}
+use mathlib.Core.List.{List}
 use mathlib.Core.Logic.{_↔_}
 use native.Mathlib.Omega.{arith}
-use lib.Dec.{ltb, eqb}
-use lib.ListN.{length, take, drop, length-append, take-append-drop}
+use lib.Dec.{eqb}
+use lib.ListN.{length, take, drop, length-append}
 use lib.Seq.{take-at, drop-at}
 use borrow.Author.Tests.{eq-eqb, eqb-true, not-false, ltb-false, le-ltb}
 use Rattle.refusals.specs.Answer.{Clear}
@@ -16,7 +16,7 @@ use Rattle.refusals.proofs.Lowest.{neither, otherwise-accepted, accepted-as}
 use Rattle.bits.specs.Bits.{value, toBits, someAbove}
 use Rattle.bits.proofs.Bit.{bits-of-number, length-toBits, within-append}
 use Rattle.bits.proofs.Inverse.{value-toBits, value-below}
-use Rattle.runs.specs.Run.{same, noRoom, placed}
+use Rattle.runs.specs.Run.{same, placed}
 use Rattle.runs.proofs.Parts.{read-back}
 use Rattle.runs.proofs.Same.{same-itself, same-elements}
 use Rattle.clock.specs.declared.types.Flag.{Flag}
@@ -28,7 +28,7 @@ use Rattle.record.specs.declared.types.Unpacked.{Unpacked}
 use Rattle.record.specs.declared.types.Unpacked.the-variants.{Holds, Refused as Unheld}
 use Rattle.record.specs.Record.{infoOf, recordOf, addressIn, digitAbove9, marked}
 use Rattle.record.specs.declared.types.Packed.the-variants.{Bits, Refused as Unpackable}
-use Rattle.record.specs.Calls.{writeRefusals, bitsRefusals, withMode, packedOf, unpackedOf}
+use Rattle.record.specs.Calls.{writeRefusals, withMode, packedOf, unpackedOf}
 use Rattle.record.proofs.Accepted.{writable}
 use Rattle.record.proofs.RoundTrip.{info-below, marked-writable, one-to-one, written-of-read as info-of-read}
 use Rattle.ltc.specs.Word.{syncWord, wordWith, infoIn, oddZeros, correctedOf, wordOf}
@@ -97,13 +97,13 @@ module _ (mode : ℕ) (word : List ℕ) (clear : Clear (readRefusals mode word))
   abbrev info : ℕ
   info = infoIn word
 
-  long : length word ≡ 80
+  pub long : length word ≡ 80
   long = eqb-true (length word) 80 (not-false (eqb (length word) 80) (clear .0))
 
   elements : (someAbove 1 (take 64 word) ≡ false) × (someAbove 1 (drop 64 word) ≡ false)
   elements = neither (someAbove 1 (take 64 word)) (someAbove 1 (drop 64 word)) (sym (above-in-parts word long) ∙ clear .1 .1 .0)
 
-  whole : word ≡ wordWith info
+  pub whole : word ≡ wordWith info
   unfolding value syncWord
   whole =
       let sync = same-elements (drop 64 word) syncWord (not-false _ (clear .1 .1 .1 .0)) in
@@ -125,15 +125,21 @@ module _ (mode : ℕ) (word : List ℕ) (clear : Clear (readRefusals mode word))
       let fits = writable mode (marked No held) ok in
       ((ok, refl), ap wordWith (only-polarity mode (marked No held) fits refl info (held .mark) (again .0) even) ∙ sym whole)
 
--- and what was read, written again, is the same elements
-pub written-of-read : (mode : ℕ) (r : Record) (word : List ℕ) → readOf mode word ≡ Holds r → Acceptable mode r × (wordOf mode r ≡ word)
+-- a word that was read is clear of refusals
+pub read-clear : (mode : ℕ) (r : Record) (word : List ℕ) → readOf mode word ≡ Holds r → Clear (readRefusals mode word) × (marked No (recordOf mode (infoIn word)) ≡ r)
 unfolding readOf recordIn
-written-of-read mode r word e =
+read-clear mode r word e =
     let taken = accepted-as Unheld (Holds (marked No (recordOf mode (infoIn word)))) (readRefusals mode word) (Holds r) apart e in
-    subst (λ (s : Record). Acceptable mode s × (wordOf mode s ≡ word)) (ap (recordIn r) (taken .1)) (read-again mode word (taken .0))
+    (taken .0, ap (recordIn r) (taken .1))
   where
     apart : (k : ℕ) → Unheld k ≡ Holds r → ⊥
     apart k e = let z : _≡_ {A = ℕ} 0 1 = cc in omega arith
+
+-- and what was read, written again, is the same elements
+pub written-of-read : (mode : ℕ) (r : Record) (word : List ℕ) → readOf mode word ≡ Holds r → Acceptable mode r × (wordOf mode r ≡ word)
+written-of-read mode r word e =
+    let taken = read-clear mode r word e in
+    subst (λ (s : Record). Acceptable mode s × (wordOf mode s ≡ word)) (taken .1) (read-again mode word (taken .0))
 
 -- the two together: accepted words and acceptable records match one to one
 pub words-and-records : (mode : ℕ) (r : Record) (word : List ℕ) → (Acceptable mode r × (wordOf mode r ≡ word)) ↔ readOf mode word ≡ Holds r

@@ -1,11 +1,9 @@
 -- What the clock says of a record's address is what the record's own list says, but for an unused colour bit.
 -- Assumes nothing.
 use Prim.Native.Nat.{ℕ}
-use mathlib.Core.Path.{_≡_, refl, sym, ap, _∙_}
+use mathlib.Core.Path.{_≡_, refl}
 use mathlib.Core.Bool.{Bool, true, false, _&&_, _||_, cond}
-use native.Mathlib.Omega.{arith}
 use lib.Dec.{ltb, eqb}
-use Rattle.refusals.specs.Answer.{answer}
 use Rattle.clock.specs.declared.types.Flag.{Flag}
 use Rattle.clock.specs.declared.types.Address.{Address}
 use Rattle.clock.specs.declared.types.Placed.{Placed}

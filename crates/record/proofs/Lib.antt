@@ -12,3 +12,5 @@ pub mod Rows
 pub mod RoundTrip
 -- Told      a carrier that takes its refusals from the record's answer refuses as its own list says
 pub mod Told
+-- Digits    the digits of an accepted address are too small for their top two bits to be both set
+pub mod Digits

@@ -8,6 +8,11 @@ use mathlib.Core.Logic.{_⊎_, inl, inr, ⊎-elim}
 use native.Mathlib.Omega.{arith}
 use Rattle.refusals.specs.Answer.{Refusal, answer, Applies, Clear, Above, Rising}
 
+-- every number of the list is below the limit
+abbrev pub Under : ℕ → List Refusal → Type 0
+Under limit [] = Unit {0}
+Under limit (row ∷ rows) = (row .number < limit) × Under limit rows
+
 -- a number that applies is above whatever the whole list is above
 above : {n m : ℕ} (rows : List Refusal) → Above n rows → Applies m rows → n < m
 above (row ∷ rows) up (inl a) = omega arith
@@ -84,4 +89,13 @@ carried f refused accepted (row ∷ rows) = go (row .applies) (carried f refused
         → f (cond t (refused (row .number)) (answer refused rows accepted))
         ≡ cond t (f (refused (row .number))) (answer (λ (n : ℕ). f (refused n)) rows (f accepted))
     go true rest = refl
+    go false rest = rest
+
+-- the number that is given stands in the list
+pub given-below : (limit : ℕ) → 0 < limit → (rows : List Refusal) → Under limit rows → answer (λ (n : ℕ). n) rows 0 < limit
+given-below limit some [] under = some
+given-below limit some (row ∷ rows) under = go (row .applies) (given-below limit some rows (under .1))
+  where
+    go : (t : Bool) → answer (λ (n : ℕ). n) rows 0 < limit → cond t (row .number) (answer (λ (n : ℕ). n) rows 0) < limit
+    go true rest = under .0
     go false rest = rest

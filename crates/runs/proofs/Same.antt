@@ -1,11 +1,11 @@
 -- The test of two runs for the same elements, and what gathering tells of a run.
 -- Assumes nothing.
 use Prim.Native.Nat.{ℕ, _≤_}
-use mathlib.Core.Path.{_≡_, refl, sym, ap, ap₂, _∙_}
-use mathlib.Core.Bool.{Bool, true, false, _&&_, true≢false, false≢true}
+use mathlib.Core.Path.{_≡_, refl, sym, ap, ap₂}
+use mathlib.Core.Bool.{Bool, true, false, _&&_, false≢true}
 use mathlib.Core.List.{List, [], _∷_}
 use native.Mathlib.Omega.{arith}
-use lib.Dec.{ltb, eqb}
+use lib.Dec.{eqb}
 use lib.ListN.{length}
 use borrow.Author.Tests.{eq-eqb, eqb-true, le-ltb}
 use Rattle.refusals.specs.Answer.{Rising}
@@ -16,7 +16,7 @@ use Rattle.runs.specs.declared.carry.Gathered.the-variants.{Number, Refu
 use Rattle.runs.specs.Gather.{gatherRefusals, gatheredOf}
 use Rattle.runs.specs.Run.{same}
 
-both-true : (s t : Bool) → (s && t) ≡ true → (s ≡ true) × (t ≡ true)
+pub both-true : (s t : Bool) → (s && t) ≡ true → (s ≡ true) × (t ≡ true)
 both-true true t e = (refl, e)
 both-true false t e = absurd (false≢true e)
 

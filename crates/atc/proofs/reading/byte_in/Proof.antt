@@ -1,32 +1,18 @@
 -- `atc::reading::byte_in` meets its contract. At each turn the number is what the words from the i-th on hold; what is left to do is i.
 -- Assumes nothing.
-use mathlib.Core.Path.{_≡_}
-use Prim.Native.Nat.{ℕ, suc, _+_, _-_, _*_, _^_, _≤_, _<_}
-use native.Mathlib.Nat.{lt-of-lt-of-le, pow-le-pow-right}
+use Prim.Native.Nat.{ℕ, _-_, _^_, _≤_, _<_}
 use native.Mathlib.Omega.{arith}
 use mathlib.Core.List.{List}
-use lib.ListN.{length, getD}
+use lib.ListN.{length}
 use borrow.Author.Needs.{needs}
-use Rattle.atc.specs.Words.{bitIn, byteIn}
+use Rattle.atc.specs.Words.{bitIn}
 use Rattle.atc.specs.Loops.{Gathering}
-use Rattle.atc.proofs.Turns.{gather-begins, gather-turns, gather-below, gather-ends}
+use Rattle.atc.proofs.Turns.{gather-begins, gather-room, gather-turns, gather-ends}
 use Rattle.atc.proofs.reading.byte_in.Statement.{statement}
 use Rattle.atc.proofs.reading.byte_in.Tie as tie
 
-module _ (words : List ℕ) (byte i : ℕ) (g : Gathering bitIn 2 words byte i) where
-  -- there is room for one digit more
-  room : 0 < i → length words ≤ 8 → byte < 2 ^ 7
-  room some short =
-      let few : length words - i ≤ 7 = omega arith in
-      lt-of-lt-of-le (gather-below bitIn 2 words (λ word. omega arith) byte i g) (pow-le-pow-right (omega arith) few)
-
-  turned : 0 < i → Gathering bitIn 2 words (bitIn (getD words (i - 1) 0) + 2 * byte) (i - 1)
-  turned some =
-      let same : suc (i - 1) ≡ i = omega arith in
-      gather-turns bitIn 2 words byte (i - 1) (rw same g)
-
-  done : i ≤ 0 → byte ≡ byteIn words
-  done none = let zero : i ≡ 0 = omega arith in gather-ends bitIn 2 words byte (rw zero at g)
+room : (words : List ℕ) (byte i : ℕ) → Gathering bitIn 2 words byte i → 0 < i → length words ≤ 8 → byte < 2 ^ 7
+room words byte i g = gather-room bitIn 2 words byte i g 7 (omega arith) (λ word. omega arith)
 
 abbrev Inv-loop : tie.InvT-loop
 Inv-loop words byte₀ i₀ byte i = Gathering bitIn 2 words byte i
@@ -59,10 +45,10 @@ loop-less : tie.Need-loop-less Inv-loop μ-loop
 loop-less c = omega arith
 
 loop-again : tie.Need-loop-again Inv-loop μ-loop
-loop-again c = search turned
+loop-again c = search (gather-turns bitIn 2)
 
 returns : tie.Need-returns Inv-loop μ-loop
-returns c = search done
+returns c = search (gather-ends bitIn 2)
 
 pub byte-in-spec : {M : Type 1} → statement M
 byte-in-spec =

@@ -1,32 +1,18 @@
 -- `atc::reading::info_in` meets its contract. At each turn the number is what the words from the i-th on hold; what is left to do is i.
 -- Assumes nothing.
-use mathlib.Core.Path.{_≡_}
-use Prim.Native.Nat.{ℕ, suc, _+_, _-_, _*_, _^_, _≤_, _<_}
-use native.Mathlib.Nat.{lt-of-lt-of-le, pow-le-pow-right}
+use Prim.Native.Nat.{ℕ, _-_, _^_, _≤_, _<_}
 use native.Mathlib.Omega.{arith}
 use mathlib.Core.List.{List}
-use lib.ListN.{length, getD}
+use lib.ListN.{length}
 use borrow.Author.Needs.{needs}
-use Rattle.atc.specs.Words.{nibbleIn, infoIn}
+use Rattle.atc.specs.Words.{nibbleIn}
 use Rattle.atc.specs.Loops.{Gathering}
-use Rattle.atc.proofs.Turns.{gather-begins, gather-turns, gather-below, gather-ends}
+use Rattle.atc.proofs.Turns.{gather-begins, gather-room, gather-turns, gather-ends}
 use Rattle.atc.proofs.reading.info_in.Statement.{statement}
 use Rattle.atc.proofs.reading.info_in.Tie as tie
 
-module _ (words : List ℕ) (info i : ℕ) (g : Gathering nibbleIn 16 words info i) where
-  -- there is room for one digit more
-  room : 0 < i → length words ≤ 16 → info < 2 ^ 60
-  room some short =
-      let few : length words - i ≤ 15 = omega arith in
-      lt-of-lt-of-le (gather-below nibbleIn 16 words (λ word. omega arith) info i g) (pow-le-pow-right (omega arith) few)
-
-  turned : 0 < i → Gathering nibbleIn 16 words (nibbleIn (getD words (i - 1) 0) + 16 * info) (i - 1)
-  turned some =
-      let same : suc (i - 1) ≡ i = omega arith in
-      gather-turns nibbleIn 16 words info (i - 1) (rw same g)
-
-  done : i ≤ 0 → info ≡ infoIn words
-  done none = let zero : i ≡ 0 = omega arith in gather-ends nibbleIn 16 words info (rw zero at g)
+room : (words : List ℕ) (info i : ℕ) → Gathering nibbleIn 16 words info i → 0 < i → length words ≤ 16 → info < 2 ^ 60
+room words info i g = gather-room nibbleIn 16 words info i g 15 (omega arith) (λ word. omega arith)
 
 abbrev Inv-loop : tie.InvT-loop
 Inv-loop words info₀ i₀ info i = Gathering nibbleIn 16 words info i
@@ -59,10 +45,10 @@ loop-less : tie.Need-loop-less Inv-loop μ-loop
 loop-less c = omega arith
 
 loop-again : tie.Need-loop-again Inv-loop μ-loop
-loop-again c = search turned
+loop-again c = search (gather-turns nibbleIn 16)
 
 returns : tie.Need-returns Inv-loop μ-loop
-returns c = search done
+returns c = search (gather-ends nibbleIn 16)
 
 pub info-in-spec : {M : Type 1} → statement M
 info-in-spec =

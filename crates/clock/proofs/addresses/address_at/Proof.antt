@@ -1,6 +1,6 @@
 -- `clock::addresses::address_at` meets its contract: the face of the number's place at the mode's rate.
 -- Assumes nothing.
-use mathlib.Core.Path.{_≡_, refl}
+use mathlib.Core.Path.{_≡_}
 use mathlib.Core.Bool.{Bool}
 use Prim.Native.Nat.{ℕ, _/_, _%_, _≤_, _<_}
 use native.Mathlib.Nat.{mod-lt}

@@ -1,6 +1,5 @@
 -- `clock::addresses::on_by` meets its contract: the bits of a count that is not below 0 are the count.
 -- Assumes nothing.
-use mathlib.Core.Path.{_∙_}
 use lib.Signed.{mag}
 use Rattle.clock.proofs.Counts.{on, read-on, castable}
 use Rattle.clock.proofs.addresses.on_by.Statement.{statement}

@@ -1,11 +1,11 @@
 -- `ltc::reading::read` meets its contract: each test is a row of the list, and a word that passes them is heard as its information bits.
 -- Assumes nothing.
 use mathlib.Core.Path.{_≡_, ap, sym, _∙_}
-use mathlib.Core.Bool.{Bool, true, false, not, or-true}
-use Prim.Native.Nat.{ℕ, _≤_}
+use mathlib.Core.Bool.{true, false, or-true}
+use Prim.Native.Nat.{ℕ}
 use mathlib.Core.List.{List}
 use native.Mathlib.Omega.{arith}
-use lib.Dec.{ltb, eqb}
+use lib.Dec.{ltb}
 use lib.ListN.{length, take, drop}
 use lib.Seq.{take-all}
 use borrow.Author.Tests.{eq-eqb, ne-eqb}
@@ -16,9 +16,8 @@ use Rattle.runs.specs.declared.carry.Gathered.the-variants.{Number, Refused as 
 use Rattle.runs.specs.Gather.{gatheredOf}
 use Rattle.runs.specs.Run.{same}
 use Rattle.runs.proofs.Same.{same-itself, gathered-is, not-gathered}
-use Rattle.record.specs.declared.types.Record.{Record}
 use Rattle.record.specs.declared.types.Unpacked.{Unpacked}
-use Rattle.record.specs.declared.types.Unpacked.the-variants.{Holds, Refused as Unheld}
+use Rattle.record.specs.declared.types.Unpacked.the-variants.{Refused as Unheld}
 use Rattle.ltc.specs.Word.{syncWord, infoIn, wordWith, oddZeros}
 use Rattle.ltc.specs.Calls.{readOf, heardOf}
 use Rattle.ltc.proofs.Heard.{low-length, high-length, above-in-parts, sync-by-number, other-sync, word-is}

@@ -1,6 +1,6 @@
 -- `ltc::writing::corrected` meets its contract: where the zeros would be odd, the bits are those of the record with its mark set.
 -- Assumes nothing.
-use mathlib.Core.Path.{_≡_, sym, ap, _∙_}
+use mathlib.Core.Path.{_≡_, sym, _∙_}
 use mathlib.Core.Bool.{Bool, true, false}
 use Prim.Native.Nat.{ℕ}
 use native.Mathlib.Omega.{arith}

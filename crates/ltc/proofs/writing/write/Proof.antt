@@ -19,7 +19,6 @@ use Rattle.record.specs.declared.types.Packed.{Packed}
 use Rattle.record.specs.declared.types.Packed.the-variants.{Bits, Refused as Unpackable}
 use Rattle.record.specs.Calls.{packedOf}
 use Rattle.record.proofs.Told.{refused-as, goes-on}
-use Rattle.ltc.specs.declared.writing.Written.{Written}
 use Rattle.ltc.specs.declared.writing.Written.the-variants.{Done, Refused as Unwritten}
 use Rattle.ltc.specs.Word.{wordWith, correctedOf, wordOf}
 use Rattle.ltc.specs.Calls.{writtenRows, writtenOf, runOf}

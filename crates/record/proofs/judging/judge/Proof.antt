@@ -6,14 +6,12 @@ use mathlib.Core.Bool.{Bool, true, false, _&&_, cond}
 use Prim.Native.Nat.{ℕ}
 use lib.Dec.{ltb, eqb}
 use borrow.Author.Needs.{needs}
-use Rattle.refusals.specs.Answer.{answer}
 use Rattle.clock.specs.declared.types.Flag.{Flag}
 use Rattle.clock.specs.declared.types.Address.{Address}
 use Rattle.clock.specs.declared.types.Placed.{Placed}
 use Rattle.clock.specs.declared.types.Placed.the-variants.{At, Refused as Unplaced}
 use Rattle.clock.specs.Modes.{isYes}
 use Rattle.clock.specs.Calls.{verdictOf, fieldsOf}
-use Rattle.clock.specs.declared.types.Verdict.{Verdict}
 use Rattle.clock.specs.declared.types.Verdict.the-variants.{Sound, Refused as Unsound}
 use Rattle.record.specs.Calls.{fieldRefusals, withMode}
 use Rattle.record.proofs.Judged.{clock-refused, clock-accepted}

@@ -4,7 +4,6 @@ use mathlib.Core.Path.{_≡_, ap, _∙_}
 use mathlib.Core.Bool.{Bool}
 use Prim.Native.Nat.{ℕ}
 use borrow.Author.Needs.{needs}
-use Rattle.clock.specs.declared.types.Flag.{Flag}
 use Rattle.clock.specs.declared.types.Address.{Address}
 use Rattle.clock.specs.declared.types.Verdict.{Verdict}
 use Rattle.clock.specs.declared.types.Verdict.the-variants.{Sound, Refused as Unsound}

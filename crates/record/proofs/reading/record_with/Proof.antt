@@ -4,9 +4,7 @@ use mathlib.Core.Path.{_≡_}
 use Prim.Native.Nat.{ℕ}
 use borrow.Author.Needs.{needs}
 use Rattle.clock.specs.declared.types.Flag.{Flag}
-use Rattle.record.specs.declared.types.Record.{Record}
-use Rattle.record.specs.Layout.{bits}
-use Rattle.record.specs.Flags.{flagOf, flagAt}
+use Rattle.record.specs.Flags.{flagAt}
 use Rattle.record.specs.Record.{recordWith, flagged}
 use Rattle.record.proofs.reading.record_with.Statement.{statement}
 use Rattle.record.proofs.reading.record_with.Tie as tie

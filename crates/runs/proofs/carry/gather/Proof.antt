@@ -1,15 +1,13 @@
 -- `runs::carry::gather` meets its contract. At each turn the number is that of the elements from the i-th on, none of them above 1;
 -- what is left to do is i.
 -- Assumes nothing.
-use mathlib.Core.Path.{_≡_, ap, sym, _∙_}
+use mathlib.Core.Path.{_≡_}
 use Prim.Native.Nat.{ℕ, suc, _+_, _-_, _*_, _^_, _≤_, _<_}
-use mathlib.Core.Bool.{true, false}
 use native.Mathlib.Omega.{arith}
 use mathlib.Core.List.{List}
 use lib.ListN.{length, getD}
 use borrow.Author.Needs.{needs}
 use borrow.Author.Tests.{lt-ltb, le-ltb}
-use Rattle.bits.specs.Bits.{value, someAbove}
 use Rattle.runs.specs.declared.carry.Gathered.the-variants.{Number, Refused}
 use Rattle.runs.specs.Gather.{gatheredOf}
 use Rattle.runs.specs.Loops.{Gathering}

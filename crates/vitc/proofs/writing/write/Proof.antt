@@ -12,7 +12,7 @@ use Rattle.runs.specs.Run.{placed}
 use Rattle.vitc.specs.declared.writing.Written.{Written}
 use Rattle.vitc.specs.declared.writing.Written.the-variants.{Done, Refused}
 use Rattle.vitc.specs.Line.{lineOf}
-use Rattle.vitc.specs.Calls.{roomRefusals, writtenRows, writtenOf, runOf, doneOf, runWith}
+use Rattle.vitc.specs.Calls.{roomRefusals, writtenOf, runOf, doneOf, runWith}
 use Rattle.vitc.proofs.Answers.{refused-first, passed-first, info-packed}
 use Rattle.vitc.proofs.writing.write.Statement.{statement}
 use Rattle.vitc.proofs.writing.write.Tie as tie
