@@ -1,0 +1,61 @@
+-- No impostor follows: one that changes what is reported of any accepted word does not do what demand 3 asks.
+-- Assumes nothing.
+use Prim.Native.Nat.{ℕ, zero, suc, _≤_}
+use mathlib.Core.Path.{_≡_, refl, sym, ap, _∙_}
+use mathlib.Core.List.{List, [], _∷_, map}
+use native.Mathlib.Omega.{arith}
+use lib.Dec.{lit≤}
+use lib.ListN.{getD, drop}
+use Rattle.record.specs.Record.{recordOf}
+use Rattle.reader.specs.declared.types.Reader.{Reader}
+use Rattle.reader.specs.declared.types.Heard.{Heard}
+use Rattle.reader.specs.declared.types.Heard.the-variants.{Nothing, Accepted, Refused}
+use Rattle.reader.specs.Held.{freshOf}
+use Rattle.reader.specs.Reach.{fed, answers, Reached}
+use Rattle.reader.specs.Following.{CodeWord, endToEnd, eachAsItself, settled, Follows}
+use Rattle.reader.proofs.Demand3.{demand-3}
+use Rattle.reader.proofs.Tight.{midnight, seven}
+
+-- a player who hears as the reader does and passes on something else
+abbrev passing : (Heard → Heard) → Reader → List ℕ → List Heard
+passing lie reader bits = map lie (answers reader bits)
+
+-- the same for each report, whatever the word
+abbrev pub always : Heard → Heard → Heard
+always other Nothing = Nothing
+always other (Accepted r) = other
+always other (Refused n) = Refused n
+
+drop-map : {A B : Type 0} (f : A → B) (n : ℕ) (xs : List A) → drop n (map f xs) ≡ map f (drop n xs)
+drop-map f zero xs = refl
+drop-map f (suc n) [] = refl
+drop-map f (suc n) (x ∷ xs) = drop-map f n xs
+
+fresh-reached : (mode : ℕ) → Reached (freshOf mode)
+unfolding fed
+fresh-reached mode = record { elements = []; brought = refl }
+
+-- such a player follows only where each accepted word's report is passed on as it is
+pub honest : (lie : Heard → Heard) → Follows (passing lie) → (mode : ℕ) → mode ≤ 2 → (word : CodeWord mode) → lie (Accepted (word .says)) ≡ Accepted (word .says)
+unfolding eachAsItself
+honest lie follows mode low word =
+    let reader = freshOf mode in
+    let bits = endToEnd (word ∷ []) in
+    let asked = follows reader (fresh-reached mode) low (word ∷ []) in
+    let told = demand-3 reader (fresh-reached mode) low (word ∷ []) in
+    ap (λ (l : List Heard). getD l 74 Nothing)
+    (sym (drop-map lie settled (answers reader bits) ∙ ap (map lie) told) ∙ asked)
+
+frameIn : Heard → ℕ
+frameIn Nothing = 0
+frameIn (Accepted r) = r .frames .0
+frameIn (Refused n) = 0
+
+-- with nothing for each report, a number, or one fixed record: one that never answers, that refuses each word, that reports one fixed address
+pub no-impostor : (other : Heard) → Follows (passing (always other)) → ⊥
+unfolding frameIn midnight seven recordOf
+no-impostor other follows =
+    let one = honest (always other) follows 2 (lit≤ tt) midnight in
+    let another = honest (always other) follows 2 (lit≤ tt) seven in
+    let same : _≡_ {A = ℕ} 0 7 = ap frameIn (sym one ∙ another) in
+    omega arith

@@ -1,0 +1,107 @@
+-- "reader state that no feeding reaches": a step and a block answer 13 exactly for these.
+-- Assumes nothing.
+use Prim.Native.Nat.{ℕ, _-_, _^_, _<_}
+use mathlib.Core.Path.{_≡_, refl, ap}
+use mathlib.Core.Bool.{Bool, true, false, _&&_, cond}
+use mathlib.Core.List.{List, [], _∷_}
+use mathlib.Core.Logic.{_↔_}
+use native.Mathlib.Omega.{arith}
+use lib.Dec.{ltb, eqb}
+use lib.ListN.{length, drop}
+use borrow.Author.Tests.{ltb-false}
+use Rattle.refusals.specs.Table.{state-not-reached}
+use Rattle.refusals.proofs.Lowest.{carried, given-below}
+use Rattle.runs.specs.Run.{same}
+use Rattle.clock.specs.declared.types.Flag.the-variants.{No}
+use Rattle.record.specs.declared.types.Unpacked.{Unpacked}
+use Rattle.record.specs.declared.types.Unpacked.the-variants.{Holds as Read, Refused as Unheld}
+use Rattle.record.specs.Record.{recordOf, marked}
+use Rattle.ltc.specs.Word.{syncWord, infoIn}
+use Rattle.ltc.specs.Calls.{readRefusals, readOf}
+use Rattle.reader.specs.declared.types.Reader.{Reader}
+use Rattle.reader.specs.declared.types.Heard.{Heard}
+use Rattle.reader.specs.declared.types.Heard.the-variants.{Nothing, Accepted, Refused}
+use Rattle.reader.specs.Held.{readerWith, push, unreached}
+use Rattle.reader.specs.Steps.{told, heardIn, steppedOf}
+use Rattle.reader.specs.Blocks.{isAnswer, going, blockedOf}
+use Rattle.reader.specs.Reach.{Reached}
+use Rattle.reader.proofs.Registers.{check-of}
+use Rattle.reader.proofs.Reached.{Holdable, Holds, steps-on, push-holdable, reached-holds, reached-exactly}
+
+-- the number of a refusal
+abbrev number : Heard → ℕ
+number Nothing = 0
+number (Accepted r) = 0
+number (Refused n) = n
+
+-- no code word is refused by 13
+word-below : (mode : ℕ) (bits : List ℕ) → number (told (readOf mode bits)) < 13
+unfolding readOf
+word-below mode bits =
+    rw (carried (λ (u : Unpacked). number (told u)) Unheld (Read (marked No (recordOf mode (infoIn bits)))) (readRefusals mode bits))
+    (given-below 13 (omega arith) (readRefusals mode bits) (omega arith))
+
+heard-below : (mode : ℕ) (bits : List ℕ) → number (heardIn mode bits) < 13
+unfolding heardIn
+heard-below mode bits = go (eqb (length bits) 80 && same (drop 64 bits) syncWord)
+  where
+    go : (t : Bool) → number (cond t (told (readOf mode bits)) Nothing) < 13
+    go true = word-below mode bits
+    go false = omega arith
+
+-- a reader that holds a list of bits never says 13
+module _ (mode : ℕ) (known : ltb 2 mode ≡ false) where
+  step-below : (bits : List ℕ) → Holdable bits → (element : ℕ) → number (steppedOf (readerWith mode bits) element .heard) < 13
+  unfolding steppedOf readerWith
+  step-below bits h element = go (ltb 1 element) refl
+    where
+      go : (t : Bool) → ltb 1 element ≡ t → number (steppedOf (readerWith mode bits) element .heard) < 13
+      go true t = rw (known, check-of mode bits (h .short) (h .clean), t) (omega arith)
+      go false t = rw (steps-on mode known bits h element (ltb-false 1 element t)) (heard-below mode (push bits element))
+
+  block-below : (run : List ℕ) (bits : List ℕ) → Holdable bits → (limit : ℕ) → number (going (readerWith mode bits) limit run .heard) < 13
+  unfolding going
+  block-below [] bits h limit = omega arith
+  block-below (element ∷ elements) bits h limit =
+      go (eqb limit 0) refl (ltb 1 element) refl (isAnswer (steppedOf (readerWith mode bits) element .heard)) refl
+      (λ (more : List ℕ) (k : Holdable more). block-below elements more k (limit - 1))
+    where
+      Below : Type 0
+      Below = number (going (readerWith mode bits) limit (element ∷ elements) .heard) < 13
+
+      go : (l : Bool) → eqb limit 0 ≡ l → (t : Bool) → ltb 1 element ≡ t
+          → (a : Bool) → isAnswer (steppedOf (readerWith mode bits) element .heard) ≡ a
+          → ((more : List ℕ) → Holdable more → number (going (readerWith mode more) (limit - 1) elements .heard) < 13) → Below
+      go true l t e a f rest = rw l (omega arith)
+      go false l true e a f rest = rw (l, e) (step-below bits h element)
+      go false l false e true f rest = rw (l, e, f) (step-below bits h element)
+      go false l false e false f rest =
+          let small = ltb-false 1 element e in
+          rw (l, e, f, steps-on mode known bits h element small) (rest (push bits element) (push-holdable mode known bits h element small))
+
+module _ (r : Reader) (known : ltb 2 (r .mode) ≡ false) (low : r .info < 2 ^ 64) (high : r .sync < 2 ^ 16) where
+  -- an answer that is 13 where the check fails and below 13 where a list of bits is held
+  exactly :
+      (heard : Heard) → (unreached r ≡ true → heard ≡ Refused state-not-reached) → (Holds (r .mode) r → number heard < 13)
+      → (heard ≡ Refused state-not-reached) ↔ (Reached r → ⊥)
+  exactly heard fails holds = (there, back (unreached r) refl)
+    where
+      there : heard ≡ Refused state-not-reached → Reached r → ⊥
+      there e reached = let below = holds (reached-holds r known reached) in let is : number heard ≡ 13 = ap number e in omega arith
+
+      back : (t : Bool) → unreached r ≡ t → (Reached r → ⊥) → heard ≡ Refused state-not-reached
+      back true t none = fails t
+      back false t none = absurd (none (reached-exactly r known low high .0 t))
+
+  pub step-thirteen : (element : ℕ) → (steppedOf r element .heard ≡ Refused state-not-reached) ↔ (Reached r → ⊥)
+  unfolding steppedOf
+  step-thirteen element = exactly (steppedOf r element .heard) (λ e. rw (known, e)) (λ held. rw (held .is) (step-below (r .mode) known (held .bits) (held .able) element))
+
+  pub block-thirteen : (limit : ℕ) (run : List ℕ) → (blockedOf r limit run .heard ≡ Refused state-not-reached) ↔ (Reached r → ⊥)
+  unfolding blockedOf
+  block-thirteen limit run = exactly (blockedOf r limit run .heard) (λ e. rw (known, e)) holds
+    where
+      holds : Holds (r .mode) r → number (blockedOf r limit run .heard) < 13
+      holds held =
+          let passes : unreached r ≡ false = rw (held .is) (check-of (r .mode) (held .bits) (held .able .short) (held .able .clean)) in
+          rw (known, passes, held .is) (block-below (r .mode) known run (held .bits) (held .able) limit)

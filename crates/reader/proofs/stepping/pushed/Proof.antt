@@ -1,0 +1,47 @@
+-- `reader::stepping::pushed` meets its contract: shifting the register is pushing onto the list.
+-- Assumes nothing.
+use mathlib.Core.Path.{_≡_}
+use mathlib.Core.Bool.{false}
+use Prim.Native.Nat.{ℕ, _+_, _^_, _≤_, _<_}
+use borrow.Author.Tests.{lt-ltb, le-ltb}
+use borrow.Author.Needs.{needs}
+use Rattle.reader.specs.declared.types.Reader.{Reader}
+use Rattle.reader.specs.Held.{heldBits, push, readerWith, unreached, shiftedTo}
+use Rattle.reader.proofs.Pushed.{shifted-is-pushed}
+use Rattle.reader.proofs.stepping.pushed.Statement.{statement}
+use Rattle.reader.proofs.stepping.pushed.Tie as tie
+
+module _ (r : Reader) (bit : ℕ) (passes : unreached r ≡ false) (small : bit < 2) (low : r .info < 2 ^ 64) (high : r .sync < 2 ^ 16) where
+  one-more : r .held < 80 → shiftedTo r bit (r .held + 1) ≡ readerWith (r .mode) (push (heldBits r) bit)
+  one-more h = rw (lt-ltb (r .held) 80 h) at (shifted-is-pushed r low high passes bit small)
+
+  still-80 : 80 ≤ r .held → shiftedTo r bit 80 ≡ readerWith (r .mode) (push (heldBits r) bit)
+  still-80 h = rw (le-ltb (r .held) 80 h) at (shifted-is-pushed r low high passes bit small)
+
+cast-oldest : tie.Need-cast-oldest
+cast-oldest c = search needs
+
+mul-info : tie.Need-mul-info
+mul-info c = search needs
+
+add-info : tie.Need-add-info
+add-info c = search needs
+
+mul-sync : tie.Need-mul-sync
+mul-sync c = search needs
+
+add-sync : tie.Need-add-sync
+add-sync c = search needs
+
+add-t13 : tie.Need-add-t13
+add-t13 c = search needs
+
+returns : tie.Need-returns
+returns c = search (one-more, needs)
+
+returns-2 : tie.Need-returns-2
+returns-2 c = search (still-80, needs)
+
+pub pushed-spec : {M : Type 1} → statement M
+pushed-spec =
+    tie.close (tie.spec cast-oldest mul-info add-info mul-sync add-sync add-t13 returns returns-2)

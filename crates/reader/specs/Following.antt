@@ -1,0 +1,45 @@
+-- Demand 3: "Take a reader in any state that feeding can bring a fresh one to. Feed it, end to end, code words that demand 2 accepts in its
+-- mode, addresses in any order. Each is reported, as itself, at its 80th bit. After the fifth bit of the first word there is no other report
+-- and no complaint."
+-- Assumes nothing.
+use Prim.Native.Nat.{ℕ, _≤_}
+use mathlib.Core.Path.{_≡_}
+use mathlib.Core.List.{List, [], _∷_, _++_}
+use lib.ListN.{drop, replicate}
+use Rattle.record.specs.declared.types.Record.{Record}
+use Rattle.record.specs.declared.types.Unpacked.the-variants.{Holds}
+use Rattle.ltc.specs.Calls.{readOf}
+use Rattle.reader.specs.declared.types.Reader.{Reader}
+use Rattle.reader.specs.declared.types.Heard.{Heard}
+use Rattle.reader.specs.declared.types.Heard.the-variants.{Nothing, Accepted}
+use Rattle.reader.specs.Reach.{Reached}
+
+-- a code word that is accepted in a mode, and the record that it is read as
+pub record CodeWord (mode : ℕ) : Type 0 where
+  pub bits : List ℕ
+  pub says : Record
+  pub accepted : readOf mode bits ≡ Holds says
+
+module _ {mode : ℕ} where
+  -- "Feed it, end to end, code words"
+  unfoldable pub endToEnd : List (CodeWord mode) → List ℕ
+  endToEnd [] = []
+  endToEnd (word ∷ words) = word .bits ++ endToEnd words
+
+  -- "Each is reported, as itself, at its 80th bit", and there is no other report and no complaint
+  unfoldable pub eachAsItself : List (CodeWord mode) → List Heard
+  eachAsItself [] = []
+  eachAsItself (word ∷ words) = (replicate 79 Nothing ++ (Accepted (word .says) ∷ [])) ++ eachAsItself words
+
+-- "After the fifth bit of the first word"
+abbrev pub settled : ℕ
+settled = 5
+
+-- what is asked of a player, who answers once for each bit that a reader is fed: nothing but the reports, after so many bits
+abbrev pub FollowsAfter : ℕ → (Reader → List ℕ → List Heard) → Type 0
+FollowsAfter bits player =
+    (reader : Reader) → Reached reader → reader .mode ≤ 2 → (words : List (CodeWord (reader .mode)))
+    → drop bits (player reader (endToEnd words)) ≡ drop bits (eachAsItself words)
+
+abbrev pub Follows : (Reader → List ℕ → List Heard) → Type 0
+Follows = FollowsAfter settled

@@ -1,0 +1,162 @@
+// One bit at a time.
+ghost use mathlib.Core.Path.{_≡_};
+ghost use mathlib.Core.Bool.{false};
+ghost use Prim.Native.Nat.{_<_, min};
+ghost use Rattle.reader.specs.Held.{heldBits, push, readerWith, unreached};
+ghost use lib.Dec.{ltb};
+ghost use Rattle.reader.specs.Steps.{heardIn, steppedOf};
+ghost use Rattle.reader.specs.Blocks.{isAnswer, going, blockedOf};
+use crate::register::is_unreached;
+use crate::types::Blocked;
+use crate::types::Heard;
+use crate::types::Reader;
+use crate::types::Stepped;
+use record::Unpacked;
+
+// The reader with one bit more.
+fn pushed(reader: Reader, bit: u8) -> Reader
+    requires { ⌜ (unreached reader ≡ false) × (bit < 2) ⌝ }
+    ensures { λ r. ⌜ r ≡ readerWith (reader .mode) (push (heldBits reader) bit) ⌝ }
+{
+    let oldest = (reader.sync % 2) as u64;
+    let info = reader.info / 2 + 0x8000_0000_0000_0000 * oldest;
+    let sync = reader.sync / 2 + 0x8000 * bit as u16;
+    let held = reader.held;
+    if held < 80 {
+        return Reader {
+            mode: reader.mode,
+            held: held + 1,
+            info,
+            sync,
+        };
+    }
+    Reader {
+        mode: reader.mode,
+        held: 80,
+        info,
+        sync,
+    }
+}
+
+// What is heard in the bits that are held.
+fn heard(reader: Reader) -> Heard
+    requires { ⌜ unreached reader ≡ false ⌝ }
+    ensures { λ r. ⌜ r ≡ heardIn (reader .mode) (heldBits reader) ⌝ }
+{
+    if reader.sync != 0xbffc {
+        return Heard::Nothing;
+    }
+    if reader.held < 80 {
+        return Heard::Nothing;
+    }
+    let found = ltc::read_info(reader.mode, reader.info);
+    match found {
+        Unpacked::Holds(held) => Heard::Accepted(held),
+        Unpacked::Refused(number) => Heard::Refused(number),
+    }
+}
+
+pub fn step(reader: Reader, element: u8) -> Stepped
+    ensures { λ s. ⌜ s ≡ steppedOf reader element ⌝ }
+{
+    let unknown = 2 < reader.mode;
+    if unknown {
+        return Stepped {
+            heard: Heard::Refused(refusals::MODE_ABOVE_2),
+            reader,
+        };
+    }
+    if is_unreached(reader) {
+        return Stepped {
+            heard: Heard::Refused(refusals::STATE_NOT_REACHED),
+            reader,
+        };
+    }
+    if 1 < element {
+        return Stepped {
+            heard: Heard::Refused(refusals::ELEMENT_TOO_HIGH),
+            reader,
+        };
+    }
+    let next = pushed(reader, element);
+    let answer = heard(next);
+    Stepped {
+        heard: answer,
+        reader: next,
+    }
+}
+
+fn is_answer(answer: Heard) -> bool
+    ensures { λ r. ⌜ r ≡ isAnswer answer ⌝ }
+{
+    match answer {
+        Heard::Nothing => false,
+        Heard::Accepted(_) => true,
+        Heard::Refused(_) => true,
+    }
+}
+
+fn lesser(a: usize, b: usize) -> usize
+    ensures { λ r. ⌜ r ≡ min a b ⌝ }
+{
+    if a < b {
+        return a;
+    }
+    b
+}
+
+// The bits of a run up to an end, from a reader whose mode and state are sound.
+fn feed(reader: Reader, limit: usize, run: &[u8]) -> Blocked
+    requires { ⌜ (ltb 2 (reader .mode) ≡ false) × (unreached reader ≡ false) ⌝ }
+    ensures { λ b. ⌜ b ≡ going reader limit (now (run .entry)) ⌝ }
+{
+    let mut now = reader;
+    let mut taken: usize = 0;
+    let end = lesser(limit, run.len());
+    while taken < end {
+        let element = run[taken];
+        if 1 < element {
+            return Blocked {
+                heard: Heard::Refused(refusals::ELEMENT_TOO_HIGH),
+                reader: now,
+                taken,
+            };
+        }
+        now = pushed(now, element);
+        taken += 1;
+        let answer = heard(now);
+        if is_answer(answer) {
+            return Blocked {
+                heard: answer,
+                reader: now,
+                taken,
+            };
+        }
+    }
+    Blocked {
+        heard: Heard::Nothing,
+        reader: now,
+        taken,
+    }
+}
+
+pub fn block(reader: Reader, limit: usize, run: &[u8]) -> Blocked
+    ensures { λ b. ⌜ b ≡ blockedOf reader limit (now (run .entry)) ⌝ }
+{
+    let unknown = 2 < reader.mode;
+    if unknown {
+        return Blocked {
+            heard: Heard::Refused(refusals::MODE_ABOVE_2),
+            reader,
+            taken: 0,
+        };
+    }
+    if is_unreached(reader) {
+        return Blocked {
+            heard: Heard::Refused(refusals::STATE_NOT_REACHED),
+            reader,
+            taken: 0,
+        };
+    }
+    feed(reader, limit, run)
+}
