@@ -15,20 +15,10 @@ use Rattle.reader.specs.declared.types.Reader.{Reader}
 use Rattle.reader.specs.declared.types.Heard.{Heard}
 use Rattle.reader.specs.declared.types.Heard.the-variants.{Nothing, Accepted, Refused}
 use Rattle.reader.specs.declared.types.Blocked.{Blocked}
-use Rattle.reader.specs.Held.{unreached}
 use Rattle.reader.specs.Steps.{steppedOf}
 use Rattle.reader.specs.Blocks.{isAnswer, oneMore, going}
 use Rattle.reader.specs.Reach.{fed, answers, said}
-
--- "with that bit not taken"
-pub not-taken : (r : Reader) (element : ℕ) → ltb 1 element ≡ true → steppedOf r element .reader ≡ r
-unfolding steppedOf
-not-taken r element high = go (ltb 2 (r .mode)) refl (unreached r) refl
-  where
-    go : (s : Bool) → ltb 2 (r .mode) ≡ s → (t : Bool) → unreached r ≡ t → steppedOf r element .reader ≡ r
-    go true s t u = rw s
-    go false s true u = rw (s, u)
-    go false s false u = rw (s, u, high)
+use Rattle.reader.proofs.Passing.{not-taken}
 
 pub block-fed : (run : List ℕ) (r : Reader) (limit : ℕ) → fed r (take (going r limit run .taken) run) ≡ going r limit run .reader
 unfolding going fed

@@ -7,7 +7,7 @@ use mathlib.Core.Bool.{Bool, true, false}
 use mathlib.Core.List.{List, [], _∷_, _++_, append-nil, append-assoc}
 use native.Mathlib.Omega.{arith}
 use lib.Dec.{ltb}
-use lib.ListN.{length, take, drop, take-append-drop}
+use lib.ListN.{length, take, drop, take-append-drop, length-drop}
 use lib.Seq.{drop-at, length-take-le}
 use borrow.Author.Tests.{le-ltb, ltb-true, ltb-false}
 use Rattle.bits.specs.Bits.{someAbove, AllBits}
@@ -15,12 +15,12 @@ use Rattle.bits.proofs.Bit.{within-append}
 use Rattle.bits.proofs.Neighbours.{Each}
 use Rattle.ltc.specs.Word.{syncWord}
 use Rattle.ltc.proofs.Apart.{gaps, NotBoth, apart}
-use Rattle.reader.specs.declared.types.Reader.{Reader}
 use Rattle.reader.specs.declared.types.Heard.{Heard}
 use Rattle.reader.specs.Reach.{answers}
+use Rattle.reader.specs.Held.{heldBits, latest}
 use Rattle.reader.specs.Following.{CodeWord, endToEnd, eachAsItself, settled, Follows}
-use Rattle.reader.proofs.Reached.{reached-holds}
-use Rattle.reader.proofs.Window.{latest}
+use Rattle.reader.proofs.Registers.{register-length}
+use Rattle.reader.proofs.Passing.{reached-passing}
 use Rattle.reader.proofs.Gaps.{inside-quiet, after-quiet}
 use Rattle.reader.proofs.Heeded.{heardAfter, heard-cut, heard-length, answers-after, word-long, word-clean, heeded}
 
@@ -71,11 +71,7 @@ module _ {mode : ℕ} where
 
 pub demand-3 : Follows answers
 demand-3 reader reached low words =
-    let known = le-ltb 2 (reader .mode) low in
-    let held = reached-holds reader known reached in
-    let bits = held .bits in
-    let none : length bits - 80 ≡ 0 = let short = held .able .short in omega arith in
-    ap (drop settled)
-    (ap (λ (r : Reader). answers r (endToEnd words)) (held .is)
-    ∙ rw none at (answers-after (reader .mode) known bits (endToEnd words) (held .able .clean) (words-clean words)))
-    ∙ first bits words
+    let sound = reached-passing reader (le-ltb 2 (reader .mode) low) reached in
+    let held = heldBits reader in
+    let none : length held - 80 ≡ 0 = rw (length-drop, register-length reader) (omega arith) in
+    ap (drop settled) (answers-after (endToEnd words) reader held sound (rw none) (words-clean words)) ∙ first held words

@@ -14,8 +14,9 @@ use Rattle.bits.proofs.Neighbours.{Each}
 use Rattle.runs.proofs.Same.{both-true}
 use Rattle.ltc.proofs.Apart.{gaps, NotBoth}
 use Rattle.ltc.specs.Word.{syncWord}
+use Rattle.reader.specs.Held.{latest}
 use Rattle.reader.specs.Following.{settled}
-use Rattle.reader.proofs.Window.{latest, ones-before}
+use Rattle.reader.proofs.Window.{ones-before}
 
 -- twelve ones that end two bits before the k-th cover one of these places and the next
 abbrev covers : ℕ → List ℕ → Bool

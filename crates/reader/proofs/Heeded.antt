@@ -2,28 +2,31 @@
 -- Assumes nothing.
 use Prim.Native.Nat.{ℕ, suc, _+_, _-_, _<_, _≤_}
 use mathlib.Core.Path.{_≡_, refl, sym, ap, ap₂, _∙_}
-use mathlib.Core.Bool.{true, false}
+use mathlib.Core.Bool.{true}
 use mathlib.Core.List.{List, [], _∷_, _++_, append-nil, append-assoc}
 use native.Mathlib.Omega.{arith}
-use lib.Dec.{ltb}
 use lib.ListN.{length, getD, take, drop, replicate, length-append, length-drop}
 use lib.Seq.{drop-at, drop-cons, split-at, length-take-le}
-use borrow.Author.Tests.{eq-eqb, not-false}
+use borrow.Author.Tests.{le-ltb, eq-eqb, not-false}
 use Rattle.refusals.specs.Answer.{Clear}
-use Rattle.bits.specs.Bits.{someAbove, AllBits}
-use Rattle.bits.proofs.Bit.{head-within, tail-within, within-drop, within-cons, within-append}
+use Rattle.bits.specs.Bits.{AllBits}
+use Rattle.bits.proofs.Bit.{head-within, tail-within}
 use Rattle.runs.specs.Run.{same}
 use Rattle.ltc.specs.Word.{syncWord}
 use Rattle.ltc.specs.Calls.{readRefusals}
 use Rattle.ltc.proofs.RoundTrip.{read-clear, long}
+use Rattle.reader.specs.declared.types.Reader.{Reader}
 use Rattle.reader.specs.declared.types.Heard.{Heard}
+use Rattle.reader.specs.declared.types.Stepped.{Stepped}
 use Rattle.reader.specs.declared.types.Heard.the-variants.{Nothing, Accepted}
-use Rattle.reader.specs.Held.{readerWith}
-use Rattle.reader.specs.Steps.{told, heardIn}
+use Rattle.reader.specs.Held.{heldBits, latest, push, readerWith}
+use Rattle.reader.specs.Steps.{told, heardIn, steppedOf}
 use Rattle.reader.specs.Reach.{answers}
 use Rattle.reader.specs.Following.{CodeWord}
-use Rattle.reader.proofs.Reached.{Holdable, steps-on}
-use Rattle.reader.proofs.Window.{latest, latest-length, push-latest, unlike-hears-nothing}
+use Rattle.reader.proofs.Registers.{held-of, held-clean}
+use Rattle.reader.proofs.Taken.{push-few, push-clean}
+use Rattle.reader.proofs.Passing.{Passing, passing-takes, step-passing}
+use Rattle.reader.proofs.Window.{push-latest, unlike-hears-nothing}
 
 -- one answer for each bit after a past
 unfoldable pub heardAfter : ℕ → List ℕ → List ℕ → List Heard
@@ -44,18 +47,22 @@ module _ (mode : ℕ) where
   heard-length past [] = refl
   heard-length past (x ∷ xs) = ap suc (heard-length (past ++ (x ∷ [])) xs)
 
-  -- a reader that holds the last 80 bits of a past answers so
-  pub answers-after :
-      ltb 2 mode ≡ false → (past bits : List ℕ) → AllBits past → AllBits bits → answers (readerWith mode (latest past)) bits ≡ heardAfter mode past bits
-  unfolding answers heardAfter someAbove
-  answers-after known past [] clean all = refl
-  answers-after known past (bit ∷ bits) clean all =
-      let small = head-within 1 bit bits all in
-      let holds : Holdable (latest past) = record { short = latest-length past; clean = within-drop 1 (length past - 80) past clean } in
-      let grown = within-append 1 past (bit ∷ []) clean (within-cons 1 bit [] small refl) in
-      rw (steps-on mode known (latest past) holds bit small, push-latest past bit)
-      (ap (λ (rest : List Heard). heardIn mode (latest (past ++ (bit ∷ []))) ∷ rest)
-      (answers-after known (past ++ (bit ∷ [])) bits grown (tail-within 1 bit bits all)))
+-- a sound reader that holds the last 80 bits of a past answers so
+pub answers-after : (bits : List ℕ) (r : Reader) (past : List ℕ) → Passing r → heldBits r ≡ latest past → AllBits bits → answers r bits ≡ heardAfter (r .mode) past bits
+unfolding answers heardAfter readerWith
+answers-after [] r past p holds all = refl
+answers-after (bit ∷ bits) r past p holds all =
+    let small = head-within 1 bit bits all in
+    let next = steppedOf r bit .reader in
+    let takes = passing-takes r bit p (le-ltb 1 bit small) in
+    let pushed : push (heldBits r) bit ≡ latest (past ++ (bit ∷ [])) = rw holds (push-latest past bit) in
+    let still : heldBits next ≡ latest (past ++ (bit ∷ [])) =
+    rw takes (held-of (r .mode) (push (heldBits r) bit) (push-few (heldBits r) bit) (push-clean (heldBits r) bit (held-clean r) small)) ∙ pushed in
+    let rest = answers-after bits next (past ++ (bit ∷ [])) (step-passing r bit p) still (tail-within 1 bit bits all) in
+    let told : steppedOf r bit .heard ≡ heardIn (r .mode) (latest (past ++ (bit ∷ []))) =
+    ap (λ (s : Stepped). s .heard) takes ∙ ap (heardIn (r .mode)) pushed in
+    let same-mode : next .mode ≡ r .mode = ap (λ (s : Stepped). s .reader .mode) takes in
+    ap₂ (λ (heard : Heard) (later : List Heard). heard ∷ later) told (rest ∙ ap (λ (mode : ℕ). heardAfter mode (past ++ (bit ∷ [])) bits) same-mode)
 
 -- what acceptance says of a code word
 module _ {mode : ℕ} (word : CodeWord mode) where

@@ -8,7 +8,6 @@ use mathlib.Core.Logic.{_↔_}
 use native.Mathlib.Omega.{arith}
 use lib.Dec.{ltb, eqb}
 use lib.ListN.{length, drop}
-use borrow.Author.Tests.{ltb-false}
 use Rattle.refusals.specs.Table.{state-not-reached}
 use Rattle.refusals.proofs.Lowest.{carried, given-below}
 use Rattle.runs.specs.Run.{same}
@@ -21,12 +20,12 @@ use Rattle.ltc.specs.Calls.{readRefusals, readOf}
 use Rattle.reader.specs.declared.types.Reader.{Reader}
 use Rattle.reader.specs.declared.types.Heard.{Heard}
 use Rattle.reader.specs.declared.types.Heard.the-variants.{Nothing, Accepted, Refused}
-use Rattle.reader.specs.Held.{readerWith, push, unreached}
+use Rattle.reader.specs.Held.{heldBits, push, unreached}
 use Rattle.reader.specs.Steps.{told, heardIn, steppedOf}
 use Rattle.reader.specs.Blocks.{isAnswer, going, blockedOf}
 use Rattle.reader.specs.Reach.{Reached}
-use Rattle.reader.proofs.Registers.{check-of}
-use Rattle.reader.proofs.Reached.{Holdable, Holds, steps-on, push-holdable, reached-holds, reached-exactly}
+use Rattle.reader.proofs.Passing.{Passing, step-passing, reached-passing, passing-goes}
+use Rattle.reader.proofs.Reached.{reached-exactly}
 
 -- the number of a refusal
 abbrev number : Heard → ℕ
@@ -49,45 +48,39 @@ heard-below mode bits = go (eqb (length bits) 80 && same (drop 64 bits) syncWord
     go true = word-below mode bits
     go false = omega arith
 
--- a reader that holds a list of bits never says 13
-module _ (mode : ℕ) (known : ltb 2 mode ≡ false) where
-  step-below : (bits : List ℕ) → Holdable bits → (element : ℕ) → number (steppedOf (readerWith mode bits) element .heard) < 13
-  unfolding steppedOf readerWith
-  step-below bits h element = go (ltb 1 element) refl
-    where
-      go : (t : Bool) → ltb 1 element ≡ t → number (steppedOf (readerWith mode bits) element .heard) < 13
-      go true t = rw (known, check-of mode bits (h .short) (h .clean), t) (omega arith)
-      go false t = rw (steps-on mode known bits h element (ltb-false 1 element t)) (heard-below mode (push bits element))
+-- a reader whose mode and state are sound never says 13
+step-below : (r : Reader) (element : ℕ) → Passing r → number (steppedOf r element .heard) < 13
+unfolding steppedOf
+step-below r element p = go (ltb 1 element) refl
+  where
+    go : (t : Bool) → ltb 1 element ≡ t → number (steppedOf r element .heard) < 13
+    go true t = rw (p .known, p .passes, t) (omega arith)
+    go false t = rw (p .known, p .passes, t) (heard-below (r .mode) (push (heldBits r) element))
 
-  block-below : (run : List ℕ) (bits : List ℕ) → Holdable bits → (limit : ℕ) → number (going (readerWith mode bits) limit run .heard) < 13
-  unfolding going
-  block-below [] bits h limit = omega arith
-  block-below (element ∷ elements) bits h limit =
-      go (eqb limit 0) refl (ltb 1 element) refl (isAnswer (steppedOf (readerWith mode bits) element .heard)) refl
-      (λ (more : List ℕ) (k : Holdable more). block-below elements more k (limit - 1))
-    where
-      Below : Type 0
-      Below = number (going (readerWith mode bits) limit (element ∷ elements) .heard) < 13
-
-      go : (l : Bool) → eqb limit 0 ≡ l → (t : Bool) → ltb 1 element ≡ t
-          → (a : Bool) → isAnswer (steppedOf (readerWith mode bits) element .heard) ≡ a
-          → ((more : List ℕ) → Holdable more → number (going (readerWith mode more) (limit - 1) elements .heard) < 13) → Below
-      go true l t e a f rest = rw l (omega arith)
-      go false l true e a f rest = rw (l, e) (step-below bits h element)
-      go false l false e true f rest = rw (l, e, f) (step-below bits h element)
-      go false l false e false f rest =
-          let small = ltb-false 1 element e in
-          rw (l, e, f, steps-on mode known bits h element small) (rest (push bits element) (push-holdable mode known bits h element small))
+block-below : (run : List ℕ) (r : Reader) (limit : ℕ) → Passing r → number (going r limit run .heard) < 13
+unfolding going
+block-below [] r limit p = omega arith
+block-below (element ∷ elements) r limit p =
+    go (eqb limit 0) refl (ltb 1 element) refl (isAnswer (steppedOf r element .heard)) refl
+    (block-below elements (steppedOf r element .reader) (limit - 1) (step-passing r element p))
+  where
+    go : (l : Bool) → eqb limit 0 ≡ l → (t : Bool) → ltb 1 element ≡ t → (a : Bool) → isAnswer (steppedOf r element .heard) ≡ a
+        → number (going (steppedOf r element .reader) (limit - 1) elements .heard) < 13
+        → number (going r limit (element ∷ elements) .heard) < 13
+    go true l t e a f rest = rw l (omega arith)
+    go false l true e a f rest = rw (l, e) (step-below r element p)
+    go false l false e true f rest = rw (l, e, f) (step-below r element p)
+    go false l false e false f rest = rw (l, e, f) rest
 
 module _ (r : Reader) (known : ltb 2 (r .mode) ≡ false) (low : r .info < 2 ^ 64) (high : r .sync < 2 ^ 16) where
-  -- an answer that is 13 where the check fails and below 13 where a list of bits is held
+  -- an answer that is 13 where the check fails and below 13 where it passes
   exactly :
-      (heard : Heard) → (unreached r ≡ true → heard ≡ Refused state-not-reached) → (Holds (r .mode) r → number heard < 13)
+      (heard : Heard) → (unreached r ≡ true → heard ≡ Refused state-not-reached) → (Passing r → number heard < 13)
       → (heard ≡ Refused state-not-reached) ↔ (Reached r → ⊥)
-  exactly heard fails holds = (there, back (unreached r) refl)
+  exactly heard fails sound = (there, back (unreached r) refl)
     where
       there : heard ≡ Refused state-not-reached → Reached r → ⊥
-      there e reached = let below = holds (reached-holds r known reached) in let is : number heard ≡ 13 = ap number e in omega arith
+      there e reached = let below = sound (reached-passing r known reached) in let is : number heard ≡ 13 = ap number e in omega arith
 
       back : (t : Bool) → unreached r ≡ t → (Reached r → ⊥) → heard ≡ Refused state-not-reached
       back true t none = fails t
@@ -95,13 +88,9 @@ module _ (r : Reader) (known : ltb 2 (r .mode) ≡ false) (low : r .info < 2 ^ 6
 
   pub step-thirteen : (element : ℕ) → (steppedOf r element .heard ≡ Refused state-not-reached) ↔ (Reached r → ⊥)
   unfolding steppedOf
-  step-thirteen element = exactly (steppedOf r element .heard) (λ e. rw (known, e)) (λ held. rw (held .is) (step-below (r .mode) known (held .bits) (held .able) element))
+  step-thirteen element = exactly (steppedOf r element .heard) (λ e. rw (known, e)) (step-below r element)
 
   pub block-thirteen : (limit : ℕ) (run : List ℕ) → (blockedOf r limit run .heard ≡ Refused state-not-reached) ↔ (Reached r → ⊥)
   unfolding blockedOf
-  block-thirteen limit run = exactly (blockedOf r limit run .heard) (λ e. rw (known, e)) holds
-    where
-      holds : Holds (r .mode) r → number (blockedOf r limit run .heard) < 13
-      holds held =
-          let passes : unreached r ≡ false = rw (held .is) (check-of (r .mode) (held .bits) (held .able .short) (held .able .clean)) in
-          rw (known, passes, held .is) (block-below (r .mode) known run (held .bits) (held .able) limit)
+  block-thirteen limit run =
+      exactly (blockedOf r limit run .heard) (λ e. rw (known, e)) (λ p. rw (passing-goes r limit run p) (block-below run r limit p))

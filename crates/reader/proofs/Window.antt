@@ -8,19 +8,13 @@ use native.Mathlib.Omega.{arith}
 use lib.Dec.{ltb, eqb}
 use lib.ListN.{length, getD, drop, length-append, length-drop, replicate, getD-replicate, List·getD-append}
 use lib.Seq.{drop-drop, drop-append-le, getD-drop, getD-append-add}
-use borrow.Author.Tests.{le-ltb, ltb-true, ltb-false}
+use borrow.Author.Tests.{ltb-true, ltb-false}
 use Rattle.runs.proofs.Same.{not-same}
 use Rattle.ltc.specs.Word.{syncWord}
 use Rattle.reader.specs.declared.types.Heard.the-variants.{Nothing}
-use Rattle.reader.specs.Held.{push}
+use Rattle.reader.specs.Held.{latest, push}
 use Rattle.reader.specs.Steps.{heardIn}
-
--- "its last 80 bits, or fewer if it has had fewer"
-abbrev pub latest : List ℕ → List ℕ
-latest bits = drop (length bits - 80) bits
-
-pub latest-length : (bits : List ℕ) → length (latest bits) ≤ 80
-latest-length bits = rw (length-drop (length bits - 80) bits) (omega arith)
+use Rattle.reader.proofs.Pushed.{latest-length, push-full}
 
 -- a bit pushed onto the last 80 leaves the last 80 of one bit more
 pub push-latest : (past : List ℕ) (bit : ℕ) → push (latest past) bit ≡ latest (past ++ (bit ∷ []))
@@ -33,14 +27,13 @@ push-latest past bit = go (ltb (length past) 80) refl
     go true t =
         let short = ltb-true (length past) 80 t in
         let none : length past - 80 ≡ 0 = omega arith in
-        let still : length past + 1 - 80 ≡ 0 = omega arith in
-        rw (none, t, longer, still)
+        rw none
     go false t =
         let full = ltb-false (length past) 80 t in
-        let held : length (latest past) ≡ 80 = length-drop (length past - 80) past ∙ omega arith in
+        let held : length (latest past) ≡ 80 = latest-length past ∙ omega arith in
         let one : length past + 1 - 80 ≡ length past - 80 + 1 = omega arith in
-        rw (le-ltb (length (latest past)) 80 (omega arith), longer, one, drop-drop 1 (length past - 80) past)
-        (sym (drop-append-le (length past - 80 + 1) past (bit ∷ []) (omega arith)))
+        push-full (latest past) bit held
+        ∙ rw (longer, one, drop-drop 1 (length past - 80) past) (sym (drop-append-le (length past - 80 + 1) past (bit ∷ []) (omega arith)))
 
 -- where the last 16 are not the sync word, nothing is heard
 pub unlike-hears-nothing : (mode : ℕ) (bits : List ℕ) → (drop 64 bits ≡ syncWord → ⊥) → heardIn mode bits ≡ Nothing

@@ -1,7 +1,7 @@
 -- "A reader has a mode and its last 80 bits, or fewer if it has had fewer."
 -- Assumes nothing.
-use Prim.Native.Nat.{ℕ, _+_, _-_, _*_, _/_, _%_, _^_}
-use mathlib.Core.Bool.{Bool, not, _||_, cond}
+use Prim.Native.Nat.{ℕ, _+_, _-_}
+use mathlib.Core.Bool.{Bool, not, _||_}
 use mathlib.Core.List.{List, [], _∷_, _++_}
 use lib.Dec.{ltb, eqb}
 use lib.ListN.{length, take, drop, replicate}
@@ -16,9 +16,13 @@ register reader = toBits 64 (reader .info) ++ toBits 16 (reader .sync)
 abbrev pub heldBits : Reader → List ℕ
 heldBits reader = drop (80 - reader .held) (register reader)
 
--- the last 80 bits, or fewer if there are fewer, with one bit more
+-- "its last 80 bits, or fewer if it has had fewer"
+abbrev pub latest : List ℕ → List ℕ
+latest bits = drop (length bits - 80) bits
+
+-- and one bit more
 abbrev pub push : List ℕ → ℕ → List ℕ
-push bits bit = cond (ltb (length bits) 80) (bits ++ (bit ∷ [])) (drop 1 bits ++ (bit ∷ []))
+push bits bit = latest (bits ++ (bit ∷ []))
 
 -- bits in a register, zeros below them
 abbrev pub padded : List ℕ → List ℕ
@@ -35,16 +39,3 @@ freshOf mode = record { mode = mode; held = 0; info = 0; sync = 0 }
 -- a state that no feeding reaches holds more than 80 bits, or a one below those that it holds
 unfoldable pub unreached : Reader → Bool
 unreached reader = ltb 80 (reader .held) || not (eqb (ones (take (80 - reader .held) (register reader))) 0)
-
--- the register with one bit more: it enters at the top, and the oldest leaves at the bottom
-abbrev pub shiftedTo : Reader → ℕ → ℕ → Reader
-shiftedTo reader bit held =
-    record {
-      mode = reader .mode;
-      held = held;
-      info = reader .info / 2 + 2 ^ 63 * (reader .sync % 2);
-      sync = reader .sync / 2 + 2 ^ 15 * bit;
-    }
-
-abbrev pub shiftedIn : Reader → ℕ → Reader
-shiftedIn reader bit = shiftedTo reader bit (cond (ltb (reader .held) 80) (reader .held + 1) 80)

@@ -2,21 +2,21 @@
 -- Assumes nothing.
 use mathlib.Core.Path.{_≡_}
 use mathlib.Core.Bool.{false}
-use Prim.Native.Nat.{ℕ, _+_, _^_, _≤_, _<_}
-use borrow.Author.Tests.{lt-ltb, le-ltb}
+use Prim.Native.Nat.{ℕ, _+_, _^_, _≤_, _<_, min}
+use native.Mathlib.Omega.{arith}
 use borrow.Author.Needs.{needs}
 use Rattle.reader.specs.declared.types.Reader.{Reader}
-use Rattle.reader.specs.Held.{heldBits, push, readerWith, unreached, shiftedTo}
-use Rattle.reader.proofs.Pushed.{shifted-is-pushed}
+use Rattle.reader.specs.Held.{heldBits, push, readerWith, unreached}
+use Rattle.reader.proofs.Pushed.{shiftedTo, shifted-is-pushed}
 use Rattle.reader.proofs.stepping.pushed.Statement.{statement}
 use Rattle.reader.proofs.stepping.pushed.Tie as tie
 
 module _ (r : Reader) (bit : ℕ) (passes : unreached r ≡ false) (small : bit < 2) (low : r .info < 2 ^ 64) (high : r .sync < 2 ^ 16) where
   one-more : r .held < 80 → shiftedTo r bit (r .held + 1) ≡ readerWith (r .mode) (push (heldBits r) bit)
-  one-more h = rw (lt-ltb (r .held) 80 h) at (shifted-is-pushed r low high passes bit small)
+  one-more h = let next : min (r .held + 1) 80 ≡ r .held + 1 = omega arith in rw next at (shifted-is-pushed r low high passes bit small)
 
   still-80 : 80 ≤ r .held → shiftedTo r bit 80 ≡ readerWith (r .mode) (push (heldBits r) bit)
-  still-80 h = rw (le-ltb (r .held) 80 h) at (shifted-is-pushed r low high passes bit small)
+  still-80 h = let next : min (r .held + 1) 80 ≡ 80 = omega arith in rw next at (shifted-is-pushed r low high passes bit small)
 
 cast-oldest : tie.Need-cast-oldest
 cast-oldest c = search needs
