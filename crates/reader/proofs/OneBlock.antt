@@ -13,19 +13,20 @@ use Rattle.bits.specs.Bits.{AllBits}
 use Rattle.bits.proofs.Bit.{head-within, within-take, within-drop}
 use Rattle.reader.specs.declared.types.Reader.{Reader}
 use Rattle.reader.specs.declared.types.Heard.{Heard}
+use Rattle.reader.specs.Held.{unreached}
 use Rattle.reader.specs.Steps.{steppedOf}
-use Rattle.reader.specs.Blocks.{isAnswer, going}
+use Rattle.reader.specs.Blocks.{isAnswer, going, blockedOf}
 use Rattle.reader.specs.Reach.{fed, answers, said}
 use Rattle.reader.specs.Cuts.{Cut, cutBlock}
 use Rattle.reader.proofs.Cut.{block-fed, block-answers, fed-cut, answers-cut}
 use Rattle.reader.proofs.Passing.{Passing, fed-passing, passing-goes}
 
--- a block takes no more than it is lent
-taken-within : (run : List ℕ) (r : Reader) (limit : ℕ) → going r limit run .taken ≤ length run
+-- a block takes no more bits than it is lent
+going-within : (run : List ℕ) (r : Reader) (limit : ℕ) → going r limit run .taken ≤ length run
 unfolding going
-taken-within [] r limit = omega arith
-taken-within (element ∷ elements) r limit =
-    go (eqb limit 0) refl (ltb 1 element) refl (isAnswer (steppedOf r element .heard)) refl (taken-within elements (steppedOf r element .reader) (limit - 1))
+going-within [] r limit = omega arith
+going-within (element ∷ elements) r limit =
+    go (eqb limit 0) refl (ltb 1 element) refl (isAnswer (steppedOf r element .heard)) refl (going-within elements (steppedOf r element .reader) (limit - 1))
   where
     go : (l : Bool) → eqb limit 0 ≡ l → (h : Bool) → ltb 1 element ≡ h → (a : Bool) → isAnswer (steppedOf r element .heard) ≡ a
         → going (steppedOf r element .reader) (limit - 1) elements .taken ≤ length elements
@@ -34,6 +35,15 @@ taken-within (element ∷ elements) r limit =
     go false l true e a f rest = rw (l, e) (omega arith)
     go false l false e true f rest = rw (l, e, f) (omega arith)
     go false l false e false f rest = rw (l, e, f) (omega arith)
+
+pub taken-within : (r : Reader) (limit : ℕ) (run : List ℕ) → blockedOf r limit run .taken ≤ length run
+unfolding blockedOf
+taken-within r limit run = go (ltb 2 (r .mode)) refl (unreached r) refl
+  where
+    go : (m : Bool) → ltb 2 (r .mode) ≡ m → (u : Bool) → unreached r ≡ u → blockedOf r limit run .taken ≤ length run
+    go true m u v = rw m (omega arith)
+    go false m true v = rw (m, v) (omega arith)
+    go false m false v = rw (m, v) (going-within run r limit)
 
 -- with a limit, and a bit to take, it takes one
 takes-one : (run : List ℕ) (r : Reader) (limit : ℕ) → AllBits run → 0 < limit → 0 < length run → 0 < going r limit run .taken
@@ -51,7 +61,7 @@ module _ (r : Reader) (p : Passing r) (cut : Cut) (run : List ℕ) (all : AllBit
 
   bits-taken : take (cutBlock r cut run .taken) (take (cut .lent) run) ≡ take (cutBlock r cut run .taken) run
   bits-taken =
-      let within = taken-within (take (cut .lent) run) r (cut .limit) in
+      let within = going-within (take (cut .lent) run) r (cut .limit) in
       take-take (cutBlock r cut run .taken) (cut .lent) run (rw goes (omega (arith, length-take (cut .lent) run)))
 
   block-reader : cutBlock r cut run .reader ≡ fed r (take (cutBlock r cut run .taken) run)

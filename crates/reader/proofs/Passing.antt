@@ -21,9 +21,10 @@ unfolding steppedOf
 not-taken r element high = go (ltb 2 (r .mode)) refl (unreached r) refl
   where
     go : (s : Bool) → ltb 2 (r .mode) ≡ s → (t : Bool) → unreached r ≡ t → steppedOf r element .reader ≡ r
-    go true s t u = rw s
-    go false s true u = rw (s, u)
-    go false s false u = rw (s, u, high)
+    go false s false u = simp (s, u, high)
+    go false s true u = simp (s, u)
+    go true s false u = simp (s, u)
+    go true s true u = simp (s, u)
 
 pub record Passing (reader : Reader) : Type 0 where
   pub known : ltb 2 (reader .mode) ≡ false

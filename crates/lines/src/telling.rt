@@ -1,0 +1,115 @@
+// The line of an answer, and the last line.
+ghost use mathlib.Core.Path.{_≡_};
+ghost use mathlib.Core.List.{[], _∷_, _++_};
+ghost use Prim.Native.Nat.{_+_, _≤_};
+ghost use lib.ListN.{length};
+ghost use Rattle.runs.specs.Run.{placed};
+ghost use Rattle.lines.specs.Characters.{space, lineFeed};
+ghost use Rattle.lines.specs.Lines.{colon, twoDigits, beforeFrames, addressText, groupsText};
+ghost use Rattle.lines.specs.Lines.{acceptedText, refusedText, lineOf, endLineOf};
+use crate::digits::hex_digit;
+use crate::digits::lay_decimal;
+use crate::laying::lay;
+use clock::Flag;
+use reader::Heard;
+use record::Record;
+
+// The longest line has 42 characters: 20 digits of bits so far, 11 of an address, 8 of groups, two spaces and a line feed.
+pub const ROOM: usize = 48;
+
+// "colon before the frames when drop is 0"
+fn before_frames(drop: Flag) -> u8
+    ensures { λ r. ⌜ r ≡ beforeFrames drop ⌝ }
+{
+    match drop {
+        Flag::No => b':',
+        Flag::Yes => b';',
+    }
+}
+
+fn clock_text(hours: u8, minutes: u8, seconds: u8, mark: u8, frames: u8) -> [u8; 12]
+    ensures { λ r. ⌜ r ≡ space ∷ (twoDigits hours ++ (colon ∷ twoDigits minutes) ++ (colon ∷ twoDigits seconds) ++ (mark ∷ twoDigits frames)) ⌝ }
+{
+    [
+        b' ',
+        b'0' + hours / 10 % 10,
+        b'0' + hours % 10,
+        b':',
+        b'0' + minutes / 10 % 10,
+        b'0' + minutes % 10,
+        b':',
+        b'0' + seconds / 10 % 10,
+        b'0' + seconds % 10,
+        mark,
+        b'0' + frames / 10 % 10,
+        b'0' + frames % 10,
+    ]
+}
+
+fn address_text(r: Record) -> [u8; 12]
+    ensures { λ a. ⌜ a ≡ space ∷ addressText r ⌝ }
+{
+    let frames = r.frames;
+    let drop = r.drop;
+    clock_text(r.hours, r.minutes, r.seconds, before_frames(drop), frames.0)
+}
+
+fn groups_text(r: Record) -> [u8; 10]
+    ensures { λ a. ⌜ a ≡ (space ∷ groupsText r) ++ (lineFeed ∷ []) ⌝ }
+{
+    [
+        b' ',
+        hex_digit(r.group1),
+        hex_digit(r.group2),
+        hex_digit(r.group3),
+        hex_digit(r.group4),
+        hex_digit(r.group5),
+        hex_digit(r.group6),
+        hex_digit(r.group7),
+        hex_digit(r.group8),
+        b'\n',
+    ]
+}
+
+fn lay_accepted(r: Record, text: &mut [u8], at: usize) -> usize
+    requires { ⌜ at + 22 ≤ length (now text) ⌝ }
+    ensures { λ n. ⌜ (n ≡ at + length (acceptedText r)) × (now (text .exit) ≡ placed at (acceptedText r) (now (text .entry))) ⌝ }
+{
+    let address = address_text(r);
+    let groups = groups_text(r);
+    let middle = lay(&address, text, at);
+    lay(&groups, text, middle)
+}
+
+fn lay_refused(number: u8, text: &mut [u8], at: usize) -> usize
+    requires { ⌜ at + 13 ≤ length (now text) ⌝ }
+    ensures { λ n. ⌜ (n ≡ at + length (refusedText number)) × (now (text .exit) ≡ placed at (refusedText number) (now (text .entry))) ⌝ }
+{
+    let word = lay(b" refused ", text, at);
+    let end = lay_decimal(number as u64, text, word);
+    lay(b"\n", text, end)
+}
+
+pub fn line(bits: u64, heard: Heard, text: &mut [u8; ROOM]) -> usize
+    ensures { λ n. ⌜ (n ≡ length (lineOf bits heard)) × (now (text .exit) ≡ placed 0 (lineOf bits heard) (now (text .entry))) ⌝ }
+{
+    match heard {
+        Heard::Nothing => 0,
+        Heard::Accepted(r) => {
+            let at = lay_decimal(bits, text, 0);
+            lay_accepted(r, text, at)
+        }
+        Heard::Refused(number) => {
+            let at = lay_decimal(bits, text, 0);
+            lay_refused(number, text, at)
+        }
+    }
+}
+
+pub fn end_line(bits: u64, text: &mut [u8; ROOM]) -> usize
+    ensures { λ n. ⌜ (n ≡ length (endLineOf bits)) × (now (text .exit) ≡ placed 0 (endLineOf bits) (now (text .entry))) ⌝ }
+{
+    let word = lay(b"end ", text, 0);
+    let end = lay_decimal(bits, text, word);
+    lay(b"\n", text, end)
+}
