@@ -81,7 +81,7 @@ acceptedText r = (space ∷ addressText r) ++ ((space ∷ groupsText r) ++ (line
 unfoldable pub refusedText : ℕ → List ℕ
 refusedText number = (space ∷ theWordRefused) ++ ((space ∷ decimal number) ++ (lineFeed ∷ []))
 
--- no answer has no line
+-- where nothing is answered there is no line
 unfoldable pub lineOf : ℕ → Heard → List ℕ
 lineOf bits Nothing = []
 lineOf bits (Accepted r) = decimal bits ++ acceptedText r

@@ -1,7 +1,7 @@
 -- Demand 3. A reader in any state that feeding can bring a fresh one to, fed accepted code words end to end, reports each as itself at its
 -- 80th bit, and says nothing else after the fifth bit of the first.
 -- Assumes nothing.
-use Prim.Native.Nat.{ℕ, _+_, _-_, _<_}
+use Prim.Native.Nat.{ℕ, _≤_, _+_, _-_, _<_}
 use mathlib.Core.Path.{_≡_, refl, sym, ap, ap₂, _∙_}
 use mathlib.Core.Bool.{Bool, true, false}
 use mathlib.Core.List.{List, [], _∷_, _++_, append-nil, append-assoc}
@@ -15,12 +15,15 @@ use Rattle.bits.proofs.Bit.{within-append}
 use Rattle.bits.proofs.Neighbours.{Each}
 use Rattle.ltc.specs.Word.{syncWord}
 use Rattle.ltc.proofs.Apart.{gaps, NotBoth, apart}
+use Rattle.reader.specs.declared.types.Reader.{Reader}
 use Rattle.reader.specs.declared.types.Heard.{Heard}
-use Rattle.reader.specs.Reach.{answers}
+use Rattle.reader.specs.Reach.{answers, Reached}
 use Rattle.reader.specs.Held.{heldBits, latest}
+use Rattle.reader.specs.Cuts.{Cut, inBlocks}
 use Rattle.reader.specs.Following.{CodeWord, endToEnd, eachAsItself, settled, Follows}
 use Rattle.reader.proofs.Registers.{register-length}
 use Rattle.reader.proofs.Passing.{reached-passing}
+use Rattle.reader.proofs.CutAnywhere.{cut-to-the-end}
 use Rattle.reader.proofs.Gaps.{inside-quiet, after-quiet}
 use Rattle.reader.proofs.Heeded.{heardAfter, heard-cut, heard-length, answers-after, word-long, word-clean, heeded}
 
@@ -47,7 +50,7 @@ module _ {mode : ℕ} where
           go true t = inside-quiet (past ++ before .bits) (word .bits) (gaps-of word) xs rest parts (ltb-true settled (length xs) t) high
           go false t = after-quiet past (before .bits) (gaps-of before) xs (word-long before) low (ltb-false settled (length xs) t)
 
-  -- after any past, the first word from its fifth bit on
+  -- after any past, the first word after its fifth bit
   first : (past : List ℕ) (words : List (CodeWord mode)) → drop settled (heardAfter mode past (endToEnd words)) ≡ drop settled (eachAsItself words)
   unfolding heardAfter endToEnd eachAsItself
   first past [] = refl
@@ -64,7 +67,7 @@ module _ {mode : ℕ} where
       (heeded word past settled (inside-quiet past bits (gaps-of word)) (omega arith))
       (later past word words))
 
-  words-clean : (words : List (CodeWord mode)) → AllBits (endToEnd words)
+  pub words-clean : (words : List (CodeWord mode)) → AllBits (endToEnd words)
   unfolding endToEnd someAbove
   words-clean [] = refl
   words-clean (word ∷ words) = within-append 1 (word .bits) (endToEnd words) (word-clean word) (words-clean words)
@@ -75,3 +78,11 @@ demand-3 reader reached low words =
     let held = heldBits reader in
     let none : length held - 80 ≡ 0 = rw (length-drop, register-length reader) (omega arith) in
     ap (drop settled) (answers-after (endToEnd words) reader held sound (rw none) (words-clean words)) ∙ first held words
+
+-- and in blocks cut anywhere, going on after each stop to the end
+pub demand-3-in-blocks :
+    (reader : Reader) → Reached reader → reader .mode ≤ 2 → (words : List (CodeWord (reader .mode))) (cuts : List Cut)
+    → inBlocks reader cuts (endToEnd words) .left ≡ [] → drop settled (inBlocks reader cuts (endToEnd words) .heard) ≡ drop settled (eachAsItself words)
+demand-3-in-blocks reader reached low words cuts ended =
+    let known = le-ltb 2 (reader .mode) low in
+    ap (drop settled) (cut-to-the-end reader known reached cuts (endToEnd words) (words-clean words) ended .0) ∙ demand-3 reader reached low words

@@ -1,4 +1,4 @@
--- No impostor follows: one that changes what is reported of any accepted word does not do what demand 3 asks.
+-- Demand 3 leaves a player no choice after the fifth bit, and one that changes what is reported of any accepted word does not meet it.
 -- Assumes nothing.
 use Prim.Native.Nat.{ℕ, zero, suc, _≤_}
 use mathlib.Core.Path.{_≡_, refl, sym, ap, _∙_}
@@ -17,8 +17,8 @@ use Rattle.reader.proofs.Demand3.{demand-3}
 use Rattle.reader.proofs.Tight.{midnight, seven}
 
 -- a player who hears as the reader does and passes on something else
-abbrev passing : (Heard → Heard) → Reader → List ℕ → List Heard
-passing lie reader bits = map lie (answers reader bits)
+abbrev relaying : (Heard → Heard) → Reader → List ℕ → List Heard
+relaying lie reader bits = map lie (answers reader bits)
 
 -- the same for each report, whatever the word
 abbrev pub always : Heard → Heard → Heard
@@ -35,8 +35,14 @@ fresh-reached : (mode : ℕ) → Reached (freshOf mode)
 unfolding fed
 fresh-reached mode = record { elements = []; brought = refl }
 
--- such a player follows only where each accepted word's report is passed on as it is
-pub honest : (lie : Heard → Heard) → Follows (passing lie) → (mode : ℕ) → mode ≤ 2 → (word : CodeWord mode) → lie (Accepted (word .says)) ≡ Accepted (word .says)
+-- whoever follows says after the fifth bit what the reader says
+pub no-choice :
+    (player : Reader → List ℕ → List Heard) → Follows player → (reader : Reader) → Reached reader → reader .mode ≤ 2
+    → (words : List (CodeWord (reader .mode))) → drop settled (player reader (endToEnd words)) ≡ drop settled (answers reader (endToEnd words))
+no-choice player follows reader reached low words = follows reader reached low words ∙ sym (demand-3 reader reached low words)
+
+-- a player who changes what the reader says follows only where each accepted word's report is passed on as it is
+pub honest : (lie : Heard → Heard) → Follows (relaying lie) → (mode : ℕ) → mode ≤ 2 → (word : CodeWord mode) → lie (Accepted (word .says)) ≡ Accepted (word .says)
 unfolding eachAsItself
 honest lie follows mode low word =
     let reader = freshOf mode in
@@ -52,7 +58,7 @@ frameIn (Accepted r) = r .frames .0
 frameIn (Refused n) = 0
 
 -- with nothing for each report, a number, or one fixed record: one that never answers, that refuses each word, that reports one fixed address
-pub no-impostor : (other : Heard) → Follows (passing (always other)) → ⊥
+pub no-impostor : (other : Heard) → Follows (relaying (always other)) → ⊥
 unfolding frameIn midnight seven recordOf
 no-impostor other follows =
     let one = honest (always other) follows 2 (lit≤ tt) midnight in

@@ -1,4 +1,4 @@
--- "13 straight after 2": a state is refused by 13 exactly when no feeding of a fresh reader reaches it.
+-- In a mode up to 2, the check passes exactly for the states that feeding a fresh reader reaches.
 -- Assumes nothing.
 use Prim.Native.Nat.{ℕ, _+_, _^_, _<_, _≤_}
 use mathlib.Core.Path.{_≡_, refl, sym, ap, _∙_}
@@ -46,7 +46,7 @@ module _ (mode : ℕ) (known : ltb 2 mode ≡ false) where
       (tail-within 1 bit more next)
       ∙ ap (readerWith mode) (append-assoc bits (bit ∷ []) more))
 
--- 13 is given exactly where no feeding of a fresh reader brings it
+-- both directions, for every state whose words are machine words
 pub reached-exactly : (r : Reader) → ltb 2 (r .mode) ≡ false → r .info < 2 ^ 64 → r .sync < 2 ^ 16 → (unreached r ≡ false) ↔ Reached r
 unfolding someAbove
 reached-exactly r known low high = (there, λ reached. reached-passing r known reached .passes)

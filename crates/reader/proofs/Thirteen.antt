@@ -1,4 +1,4 @@
--- "reader state that no feeding reaches": a step and a block answer 13 exactly for these.
+-- "reader state that no feeding reaches": in a mode up to 2, a step and a block answer 13 exactly for these.
 -- Assumes nothing.
 use Prim.Native.Nat.{ℕ, _-_, _^_, _<_}
 use mathlib.Core.Path.{_≡_, refl, ap}

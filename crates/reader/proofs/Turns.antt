@@ -17,7 +17,7 @@ use Rattle.reader.specs.declared.types.Heard.the-variants.{Nothing, Refu
 use Rattle.reader.specs.Held.{heldBits, push, readerWith}
 use Rattle.reader.specs.Steps.{heardIn, steppedOf}
 use Rattle.reader.specs.Blocks.{isAnswer, stopped, oneMore, going}
-use Rattle.reader.specs.Feeding.{after, Sound, Feeding}
+use Rattle.reader.specs.Feeding.{moreBefore, Sound, Feeding}
 use Rattle.reader.proofs.Taken.{next-passes, same-mode, step-taken}
 
 at-limit : (reader : Reader) (run : List ℕ) → going reader 0 run ≡ stopped Nothing reader 0
@@ -60,7 +60,7 @@ module _ (limit : ℕ) (run : List ℕ) (first : Reader) (end : ℕ) where
     -- at the end of the run or of the limit
     pub feeding-ends : end ≤ taken → stopped Nothing reader taken ≡ going first limit run
     unfolding going
-    feeding-ends h = sym (f .so-far ∙ ap (after taken) (go (ltb limit (length run)) refl) ∙ ap (stopped Nothing reader) (add-zero taken))
+    feeding-ends h = sym (f .so-far ∙ ap (moreBefore taken) (go (ltb limit (length run)) refl) ∙ ap (stopped Nothing reader) (add-zero taken))
       where
         go : (t : Bool) → ltb limit (length run) ≡ t → going reader (limit - taken) (drop taken run) ≡ stopped Nothing reader 0
         go true t =
@@ -83,7 +83,7 @@ module _ (limit : ℕ) (run : List ℕ) (first : Reader) (end : ℕ) where
       pub stops-before : 1 < getD run taken 0 → stopped (Refused 3) reader taken ≡ going first limit run
       stops-before high =
           let one = high-stops reader (f .sound) (limit - taken) left (getD run taken 0) (drop (suc taken) run) high in
-          sym (f .so-far ∙ ap (after taken) (rw here one) ∙ ap (stopped (Refused 3) reader) (add-zero taken))
+          sym (f .so-far ∙ ap (moreBefore taken) (rw here one) ∙ ap (stopped (Refused 3) reader) (add-zero taken))
 
       module _
           (small : getD run taken 0 ≤ 1) (next : Reader) (pushes : next ≡ readerWith (reader .mode) (push (heldBits reader) (getD run taken 0)))
@@ -92,7 +92,7 @@ module _ (limit : ℕ) (run : List ℕ) (first : Reader) (end : ℕ) where
         pub stops-after : isAnswer heard ≡ true → stopped heard next (taken + 1) ≡ going first limit run
         stops-after some =
             let one = answer-stops reader (f .sound) (limit - taken) left (getD run taken 0) (drop (suc taken) run) small next pushes heard told some in
-            sym (f .so-far ∙ ap (after taken) (rw here one))
+            sym (f .so-far ∙ ap (moreBefore taken) (rw here one))
 
         -- one bit taken, and on
         pub feeding-goes-on : next .info < 2 ^ 64 → next .sync < 2 ^ 16 → isAnswer heard ≡ false → Feeding limit run first end next (taken + 1)
@@ -113,7 +113,7 @@ module _ (limit : ℕ) (run : List ℕ) (first : Reader) (end : ℕ) where
                     high = high;
                   };
               so-far =
-                  f .so-far ∙ ap (after taken) (rw here one)
+                  f .so-far ∙ ap (moreBefore taken) (rw here one)
                   ∙ ap (stopped (rest .heard) (rest .reader)) counted
                   ∙ rw (fewer, add-one taken);
             }

@@ -14,7 +14,7 @@ pub record Cut : Type 0 where
   pub limit : ℕ
   pub lent : ℕ
 
--- what was answered, one answer for each bit that was taken; the reader after it; and what is left of the run
+-- what was answered, one answer for each bit that was taken (of a run of 0s and 1s); the reader after it; and what is left of the run
 pub record Played : Type 0 where
   pub heard : List Heard
   pub reader : Reader

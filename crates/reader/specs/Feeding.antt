@@ -12,8 +12,8 @@ use Rattle.reader.specs.Held.{unreached}
 use Rattle.reader.specs.Blocks.{stopped, going}
 
 -- so many bits were taken before this block
-abbrev pub after : ℕ → Blocked → Blocked
-after taken block = stopped (block .heard) (block .reader) (taken + block .taken)
+abbrev pub moreBefore : ℕ → Blocked → Blocked
+moreBefore taken block = stopped (block .heard) (block .reader) (taken + block .taken)
 
 -- a reader whose mode and state are sound, and whose words are machine words
 pub record Sound (reader : Reader) : Type 0 where
@@ -27,4 +27,4 @@ pub record Feeding (limit : ℕ) (run : List ℕ) (first : Reader) (end : ℕ) (
   pub within : taken ≤ end
   pub ends : end ≡ min limit (length run)
   pub sound : Sound reader
-  pub so-far : going first limit run ≡ after taken (going reader (limit - taken) (drop taken run))
+  pub so-far : going first limit run ≡ moreBefore taken (going reader (limit - taken) (drop taken run))

@@ -23,7 +23,7 @@ unfoldable pub answers : Reader → List ℕ → List Heard
 answers reader [] = []
 answers reader (element ∷ elements) = steppedOf reader element .heard ∷ answers (steppedOf reader element .reader) elements
 
--- what a block says of the bits that it took, one by one: nothing, but for an answer at the last
+-- what a block of a run of 0s and 1s says of the bits that it took, one by one: nothing, but for an answer at the last
 abbrev pub said : Blocked → List Heard
 said block = cond (isAnswer (block .heard)) (replicate (block .taken - 1) Nothing ++ (block .heard ∷ [])) (replicate (block .taken) Nothing)
 

@@ -1,6 +1,7 @@
 // "The program reads characters 0 and 1 in mode 2, skips spaces and line feeds, and ends at the input's end, at any other character, or
 // after 16,777,216 characters in all."
-ghost use Prim.Native.Nat.{_≤_};
+ghost use Prim.Native.Nat.{min};
+ghost use mathlib.Core.Path.{_≡_};
 use reader::Blocked;
 use reader::Reader;
 
@@ -24,7 +25,7 @@ struct Progress {
 }
 
 fn lesser(a: usize, b: usize) -> usize
-    ensures { λ r. ⌜ r ≤ b ⌝ }
+    ensures { λ r. ⌜ r ≡ min a b ⌝ }
 {
     if a < b {
         return a;
