@@ -5,9 +5,11 @@ use Prim.Native.Nat.{ℕ, _+_, _^_, _<_, _≤_}
 use mathlib.Core.Path.{_≡_, ap, subst, _∙_}
 use mathlib.Core.List.{List}
 use mathlib.Core.Logic.{_↔_}
+use native.Mathlib.Nat.{lt-of-lt-of-le, pow-le-pow-right}
 use native.Mathlib.Omega.{arith}
-use lib.ListN.{length, take, drop}
-use borrow.Author.Tests.{ltb-false, le-ltb}
+use lib.Dec.{eqb}
+use lib.ListN.{length, take, drop, length-take}
+use borrow.Author.Tests.{ltb-false, le-ltb, eqb-true, not-false}
 use Rattle.refusals.specs.Answer.{Clear}
 use Rattle.refusals.proofs.Lowest.{otherwise-accepted, accepted-as}
 use Rattle.runs.specs.Run.{placed}
@@ -23,9 +25,10 @@ use Rattle.atc.specs.declared.types.Contents.{Contents}
 use Rattle.atc.specs.declared.types.Packet.{Packet}
 use Rattle.atc.specs.declared.types.Packet.the-variants.{Holds, Refused as Unread}
 use Rattle.atc.specs.declared.types.Written.the-variants.{Done, Refused as Unwritten}
-use Rattle.atc.specs.Words.{infoIn}
+use Rattle.atc.specs.Words.{bitIn, infoIn}
 use Rattle.atc.specs.Packet.{dataIn, typeIn, secondIn, packetWith}
 use Rattle.atc.specs.Calls.{formRefusals, readRefusals, contentsWith, readOf, packetOf, writtenRows, writtenOf, runOf}
+use Rattle.atc.proofs.Turns.{gathered-below}
 use Rattle.atc.proofs.Pieces.{length-packet}
 use Rattle.atc.proofs.Whole.{form-clear, info-again, type-again, second-again, packet-again, info-below}
 use Rattle.atc.proofs.Answers.{past-the-type}
@@ -70,21 +73,40 @@ module _ (mode : ℕ) (words : List ℕ) (clear : Clear (readRefusals mode words
         ap (λ (n : ℕ). packetWith n (typeIn words) (secondIn words)) (packed .1) ∙ packet-again mode words form,
       )
 
+-- what a packet carries, whether or not it is accepted
+abbrev carriedIn : ℕ → List ℕ → Contents
+carriedIn mode words = contentsWith (recordOf mode (infoIn (dataIn words))) (typeIn words) (secondIn words)
+
+-- a packet that was read is clear of refusals
+read-clear : (mode : ℕ) (words : List ℕ) (contents : Contents) → readOf mode words ≡ Holds contents → Clear (readRefusals mode words) × (carriedIn mode words ≡ contents)
+unfolding readOf contentsIn
+read-clear mode words contents e =
+    let taken = accepted-as Unread (Holds (carriedIn mode words)) (readRefusals mode words) (Holds contents) apart e in
+    (taken .0, ap (contentsIn contents) (taken .1))
+  where
+    apart : (k : ℕ) → Unread k ≡ Holds contents → ⊥
+    apart k same = let z : _≡_ {A = ℕ} 0 1 = cc in omega arith
+
+-- it had 23 words, and its second byte is a byte
+pub read-sized : (mode : ℕ) (words : List ℕ) (contents : Contents) → readOf mode words ≡ Holds contents → (length words ≡ 23) × (contents .second < 256)
+read-sized mode words contents e =
+    let taken = read-clear mode words contents e in
+    let carrying = take 8 (drop 14 words) in
+    let few : length carrying ≤ 8 = rw length-take (omega arith) in
+    let byte : secondIn words < 256 =
+    lt-of-lt-of-le (gathered-below bitIn 2 (λ word. omega arith) carrying) (pow-le-pow-right (omega arith) few) in
+    (eqb-true (length words) 23 (not-false (eqb (length words) 23) (taken .0 .0)), subst (λ (c : Contents). c .second < 256) (taken .1) byte)
+
 -- and what was read, written again, is the same words
 pub written-of-read :
     (mode : ℕ) (words : List ℕ) (r : Record) (type second : ℕ) → readOf mode words ≡ Holds (contentsWith r type second)
     → Acceptable mode r type × (packetOf mode r type second ≡ words)
-unfolding readOf contentsIn
 written-of-read mode words r type second e =
-    let held = contentsWith (recordOf mode (infoIn (dataIn words))) (typeIn words) (secondIn words) in
-    let taken = accepted-as Unread (Holds held) (readRefusals mode words) (Holds (contentsWith r type second)) apart e in
+    let taken = read-clear mode words (contentsWith r type second) e in
     subst
     (λ (c : Contents). Acceptable mode (c .«record») (c .«payload_type») × (packetOf mode (c .«record») (c .«payload_type») (c .second) ≡ words))
-    (ap (contentsIn held) (taken .1))
+    (taken .1)
     (read-again mode words (taken .0))
-  where
-    apart : (k : ℕ) → Unread k ≡ Holds (contentsWith r type second) → ⊥
-    apart k same = let z : _≡_ {A = ℕ} 0 1 = cc in omega arith
 
 -- the two together: accepted packets and acceptable contents match one to one
 pub one-to-one-packets :

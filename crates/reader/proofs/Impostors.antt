@@ -17,7 +17,7 @@ use Rattle.reader.proofs.Demand3.{demand-3}
 use Rattle.reader.proofs.Tight.{midnight, seven}
 
 -- a player who hears as the reader does and passes on something else
-abbrev relaying : (Heard → Heard) → Reader → List ℕ → List Heard
+abbrev pub relaying : (Heard → Heard) → Reader → List ℕ → List Heard
 relaying lie reader bits = map lie (answers reader bits)
 
 -- the same for each report, whatever the word

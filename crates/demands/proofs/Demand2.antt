@@ -1,0 +1,146 @@
+-- Demand 2. "Frame numbers of a day and addresses match one to one, drop-frame or not; an address is turned away exactly when the clock, stepped
+-- from midnight by the standard's rule, never shows it." And what is carried, read or written, matches one to one.
+-- Assumes nothing.
+use Prim.Native.Nat.{ℕ, _+_, _<_, _≤_}
+use mathlib.Core.Path.{_≡_, refl}
+use mathlib.Core.List.{List}
+use mathlib.Core.Logic.{_↔_, _⊎_}
+use native.Mathlib.Omega.{arith}
+use lib.ListN.{length, take, drop}
+use Rattle.runs.specs.Run.{placed}
+use Rattle.runs.proofs.Parts.{read-back}
+use Rattle.clock.specs.declared.types.Flag.{Flag}
+use Rattle.clock.specs.declared.types.Address.{Address}
+use Rattle.clock.specs.declared.types.DayFrame.{DayFrame}
+use Rattle.clock.specs.declared.types.Numbered.the-variants.{Number, Refused as Unnumbered}
+use Rattle.clock.specs.declared.types.Placed.the-variants.{At}
+use Rattle.clock.specs.Modes.{isYes, framesInSecond, framesInDay}
+use Rattle.clock.specs.Clock.{shown}
+use Rattle.clock.specs.Calls.{numberOf, addressOf}
+use Rattle.clock.proofs.Answers.{one-to-one, address-is-shown, refused-exactly}
+use Rattle.ltc.specs.Word.{wordOf}
+use Rattle.ltc.proofs.RoundTrip as ltc
+use Rattle.vitc.specs.Line.{lineOf}
+use Rattle.vitc.proofs.RoundTrip as vitc
+use Rattle.atc.specs.Calls.{packetOf}
+use Rattle.atc.proofs.RoundTrip as atc
+use Rattle.demands.specs.Modes.{CountingMode}
+use Rattle.demands.specs.Carriers.{Carrier, linear, interval, ancillary, Accepting, Matches}
+use Rattle.demands.proofs.Accepted.{known, allowed, acceptable-exactly}
+
+-- "Frame numbers of a day and addresses match one to one, drop-frame or not": of `clock::number_of` and `clock::address_of`, in every mode. Shut out:
+-- drop-frame that skips pictures rather than numbers.
+pub numbers-and-addresses :
+    (mode : ℕ) (drop : Flag) (a : Address) (n : DayFrame) → (numberOf mode drop a ≡ Number n) ↔ (addressOf mode drop n ≡ At a)
+numbers-and-addresses = one-to-one
+
+module _ {mode : ℕ} {drop : Flag} (counts : CountingMode mode drop) where
+  -- every number below the day's count has an address: the one that the clock shows so many steps after midnight
+  pub every-number : (n : ℕ) → n < framesInDay mode (isYes drop) → addressOf mode drop (record { 0 = n }) ≡ At (shown (framesInSecond mode) (isYes drop) n)
+  every-number = address-is-shown mode drop (known counts) (allowed counts)
+
+  -- "an address is turned away exactly when the clock, stepped from midnight by the standard's rule, never shows it". Shut out: drop-frame that skips at
+  -- every minute.
+  pub turned-away-exactly :
+      (a : Address) → ((numberOf mode drop a ≡ Unnumbered 8) ⊎ (numberOf mode drop a ≡ Unnumbered 9))
+      ↔ ((n : ℕ) → n < framesInDay mode (isYes drop) → shown (framesInSecond mode) (isYes drop) n ≡ a → ⊥)
+  turned-away-exactly = refused-exactly mode drop (known counts) (allowed counts)
+
+-- what is known of a carrier: what a done write leaves reads as its content; what reads is written again, has the carrier's size and is taken; and
+-- what is taken has elements that read as it
+record Laws {Content : Type 0} (carrier : Carrier Content) : Type 0 where
+  done-reads :
+      (mode : ℕ) (c : Content) (start : ℕ) (run : List ℕ) → start + carrier .size ≤ length run → carrier .Writes mode c start run
+      → carrier .Reads mode (take (carrier .size) (drop start (carrier .leaves mode c start run))) c
+  read-writes :
+      (mode : ℕ) (c : Content) (start : ℕ) (run elements : List ℕ) → start + carrier .size ≤ length run → carrier .Reads mode elements c
+      → carrier .Writes mode c start run × (carrier .leaves mode c start run ≡ placed start elements run)
+  sized : (mode : ℕ) (c : Content) (elements : List ℕ) → carrier .Reads mode elements c → length elements ≡ carrier .size
+  taken : (mode : ℕ) (c : Content) (elements : List ℕ) → carrier .Reads mode elements c → carrier .Accepts mode c
+  elementsOf : ℕ → Content → List ℕ
+  reads : (mode : ℕ) (c : Content) → carrier .Accepts mode c → carrier .Reads mode (elementsOf mode c) c
+
+accepting : {Content : Type 0} (carrier : Carrier Content) → Laws carrier → Accepting carrier
+accepting carrier law mode c start run room = (
+  λ written. law .taken mode c _ (law .done-reads mode c start run room written),
+  λ ok. law .read-writes mode c start run (law .elementsOf mode c) room (law .reads mode c ok) .0,
+)
+
+matches : {Content : Type 0} (carrier : Carrier Content) → Laws carrier → Matches carrier
+matches carrier law mode c start run elements room = (there, back)
+  where
+    there :
+        carrier .Writes mode c start run × (length elements ≡ carrier .size) × (carrier .leaves mode c start run ≡ placed start elements run)
+        → carrier .Reads mode elements c
+    there written =
+        let kept : take (carrier .size) (drop start (carrier .leaves mode c start run)) ≡ elements =
+        rw (written .2, ← written .1) (read-back start elements run (omega arith)) in
+        rw kept at (law .done-reads mode c start run room (written .0))
+
+    back :
+        carrier .Reads mode elements c
+        → carrier .Writes mode c start run × (length elements ≡ carrier .size) × (carrier .leaves mode c start run ≡ placed start elements run)
+    back reads = let written = law .read-writes mode c start run elements room reads in (written .0, law .sized mode c elements reads, written .1)
+
+linear-laws : Laws linear
+linear-laws =
+    record {
+      done-reads = λ mode r start run room done. ltc.done-reads mode r start run done;
+      read-writes = λ mode r start run word room reads. ltc.read-writes mode r start run word reads room;
+      sized = λ mode r word reads. ltc.long mode word (ltc.read-clear mode r word reads .0);
+      taken =
+          λ mode r word reads. (let again = ltc.written-of-read mode r word reads in
+          (acceptable-exactly mode r .0 (again .0 .0), again .0 .1));
+      elementsOf = wordOf;
+      reads = λ mode r ok. ltc.read-of-written mode r (acceptable-exactly mode r .1 (ok .0), ok .1);
+    }
+
+interval-laws : Laws interval
+interval-laws =
+    record {
+      done-reads = λ mode r start run room done. vitc.one-to-one mode r start run _ room .0 (done, refl);
+      read-writes = λ mode r start run line room reads. vitc.read-writes mode r start run line room reads;
+      sized = λ mode r line reads. vitc.reads mode r line .0 reads .0 .long;
+      taken = λ mode r line reads. acceptable-exactly mode r .0 (vitc.made-reads mode r line .1 reads .0);
+      elementsOf = lineOf;
+      reads = λ mode r ok. vitc.made-reads mode r (lineOf mode r) .0 (acceptable-exactly mode r .1 ok, refl);
+    }
+
+ancillary-laws : Laws ancillary
+ancillary-laws =
+    record {
+      done-reads = λ mode c start run room done. atc.done-reads mode (c .«record») (c .«payload_type») (c .second) start run (done .0) (done .1);
+      read-writes =
+          λ mode c start run words room reads. (let written = atc.read-writes mode (c .«record») (c .«payload_type») (c .second) start run words reads room in
+          ((atc.read-sized mode words c reads .1, written .0), written .1));
+      sized = λ mode c words reads. atc.read-sized mode words c reads .0;
+      taken =
+          λ mode c words reads. (let again = atc.written-of-read mode words (c .«record») (c .«payload_type») (c .second) reads in
+          (acceptable-exactly mode (c .«record») .0 (again .0 .0), again .0 .1, atc.read-sized mode words c reads .1));
+      elementsOf = λ mode c. packetOf mode (c .«record») (c .«payload_type») (c .second);
+      reads =
+          λ mode c ok. atc.read-of-written mode (c .«record») (c .«payload_type») (c .second)
+          (acceptable-exactly mode (c .«record») .1 (ok .0), ok .1) (ok .2);
+    }
+
+-- "Words on the linear track (LTC), vertical interval lines (VITC) and ancillary packets (ATC) .. read or written": written exactly where the clock shows the
+-- record's address and no unused bit is set. Shut out: a reader or a writer that refuses each word.
+pub linear-accepts : Accepting linear
+linear-accepts = accepting linear linear-laws
+
+pub interval-accepts : Accepting interval
+interval-accepts = accepting interval interval-laws
+
+pub ancillary-accepts : Accepting ancillary
+ancillary-accepts = accepting ancillary ancillary-laws
+
+-- and what is read and what is written match one to one. Shut out: a writer that writes nothing, or touches another element; a reader that reports one
+-- fixed address.
+pub linear-matches : Matches linear
+linear-matches = matches linear linear-laws
+
+pub interval-matches : Matches interval
+interval-matches = matches interval interval-laws
+
+pub ancillary-matches : Matches ancillary
+ancillary-matches = matches ancillary ancillary-laws

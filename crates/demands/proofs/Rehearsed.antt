@@ -1,0 +1,20 @@
+-- The bars that document 01 marks P: one table, one claim, computed from the definitions that the calls promise.
+-- Assumes nothing.
+use mathlib.Core.Path.{refl}
+use Rattle.bits.specs.Bits.{value, toBits, howMany}
+use Rattle.runs.specs.Run.{placed}
+use Rattle.clock.specs.Calls.{numberOf, addressOf, fieldsOf, spanOf}
+use Rattle.clock.specs.Counting.{countOf, distanceOf}
+use Rattle.record.specs.Layout.{join, layout}
+use Rattle.record.specs.Record.{fieldsOf as fieldsOfRecord, infoOf}
+use Rattle.ltc.specs.Word.{syncWord, oddZeros, wordOf}
+use Rattle.ltc.specs.Calls as ltc
+use Rattle.vitc.specs.Line.{each, onesFrom, groups, payload, crcOf, lineWith, lineOf}
+use Rattle.atc.specs.Words.{dataWord, dataWords, sum9}
+use Rattle.atc.specs.Packet.{header, checksumOf, frontOf, packetWith}
+use Rattle.atc.specs.Calls as atc
+use Rattle.demands.specs.Bars.{bars, onesAmong, packed, Rehearsed}
+
+pub rehearsed : Rehearsed bars
+unfolding bars onesAmong packed numberOf addressOf fieldsOf spanOf value toBits howMany placed join layout fieldsOfRecord infoOf syncWord oddZeros wordOf each onesFrom groups payload crcOf lineWith lineOf dataWords dataWord sum9 header checksumOf frontOf packetWith countOf distanceOf ltc.runOf ltc.writtenRows atc.runOf
+rehearsed = refl

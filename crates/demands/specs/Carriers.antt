@@ -1,0 +1,78 @@
+-- Demand 2 of what carries a record: "Words on the linear track (LTC), vertical interval lines (VITC) and ancillary packets (ATC) mean what
+-- ITU-R BT.1366-3 says, read or written".
+-- Assumes nothing.
+use Prim.Native.Nat.{ℕ, _+_, _<_, _≤_}
+use mathlib.Core.Path.{_≡_}
+use mathlib.Core.List.{List}
+use mathlib.Core.Logic.{_↔_}
+use lib.ListN.{length}
+use Rattle.runs.specs.Run.{placed}
+use Rattle.clock.specs.declared.types.Flag.the-variants.{No}
+use Rattle.record.specs.declared.types.Record.{Record}
+use Rattle.record.specs.declared.types.Unpacked.the-variants.{Holds}
+use Rattle.ltc.specs.Calls as ltc
+use Rattle.ltc.specs.declared.writing.Written.the-variants.{Done as LtcDone}
+use Rattle.vitc.specs.Calls as vitc
+use Rattle.vitc.specs.declared.writing.Written.the-variants.{Done as VitcDone}
+use Rattle.atc.specs.declared.types.Contents.{Contents}
+use Rattle.atc.specs.Calls as atc
+use Rattle.atc.specs.declared.types.Packet.the-variants.{Holds as Carries}
+use Rattle.atc.specs.declared.types.Written.the-variants.{Done as AtcDone}
+use Rattle.demands.specs.Records.{Acceptable}
+
+-- What a carrier takes, by mode, and what its calls promise: that a write of a content from a start in a lent run is done; the run as the write leaves
+-- it; and that a read of a run of elements gives a content.
+pub record Carrier (Content : Type 0) : Type 1 where
+  pub size : ℕ
+  pub Accepts : ℕ → Content → Type 0
+  pub Writes : ℕ → Content → ℕ → List ℕ → Type 0
+  pub leaves : ℕ → Content → ℕ → List ℕ → List ℕ
+  pub Reads : ℕ → List ℕ → Content → Type 0
+
+-- 80 bits of a linear track: `ltc::write` and `ltc::read`. The record's mark is no
+abbrev pub linear : Carrier Record
+linear =
+    record {
+      size = 80;
+      Accepts = λ mode r. Acceptable mode r × (r .mark ≡ No);
+      Writes = λ mode r start run. ltc.writtenOf mode r start run ≡ LtcDone;
+      leaves = ltc.runOf;
+      Reads = λ mode word r. ltc.readOf mode word ≡ Holds r;
+    }
+
+-- 90 bits of a vertical interval line: `vitc::write` and `vitc::read`
+abbrev pub interval : Carrier Record
+interval =
+    record {
+      size = 90;
+      Accepts = λ mode r. Acceptable mode r;
+      Writes = λ mode r start run. vitc.writtenOf mode r start run ≡ VitcDone;
+      leaves = vitc.runOf;
+      Reads = λ mode line r. vitc.readOf mode line ≡ Holds r;
+    }
+
+-- 23 words of an ancillary packet: `atc::write` and `atc::read`. The payload type is up to 2, and the second byte is a byte
+abbrev pub ancillary : Carrier Contents
+ancillary =
+    record {
+      size = 23;
+      Accepts = λ mode c. Acceptable mode (c .«record») × (c .«payload_type» ≤ 2) × (c .second < 256);
+      Writes = λ mode c start run. (c .second < 256) × (atc.writtenOf mode (c .«record») (c .«payload_type») start run ≡ AtcDone);
+      leaves = λ mode c. atc.runOf mode (c .«record») (c .«payload_type») (c .second);
+      Reads = λ mode words c. atc.readOf mode words ≡ Carries c;
+    }
+
+module _ {Content : Type 0} (carrier : Carrier Content) where
+  -- A write that has room is done exactly where the carrier takes the content.
+  abbrev pub Accepting : Type 0
+  Accepting =
+      (mode : ℕ) (content : Content) (start : ℕ) (run : List ℕ) → start + carrier .size ≤ length run
+      → carrier .Writes mode content start run ↔ carrier .Accepts mode content
+
+  -- A run of elements reads as a content exactly where a write of the content, given room, is done and leaves these elements from its start on and
+  -- every other element as it was. So what is read can be written, and what a writer leaves in the lent run reads as what was written.
+  abbrev pub Matches : Type 0
+  Matches =
+      (mode : ℕ) (content : Content) (start : ℕ) (run elements : List ℕ) → start + carrier .size ≤ length run
+      → (carrier .Writes mode content start run × (length elements ≡ carrier .size) × (carrier .leaves mode content start run ≡ placed start elements run))
+      ↔ carrier .Reads mode elements content
