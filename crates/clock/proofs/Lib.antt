@@ -10,6 +10,8 @@ pub mod Shown
 pub mod Round
 -- Sizes      how large the clock's numbers get
 pub mod Sizes
+-- CountTests what the test of drop-frame leads to in a count, and how large its place gets
+pub mod CountTests
 -- Verdicts   a call that takes its refusal from a verdict answers as its own list says
 pub mod Verdicts
 -- Counts     a signed count taken apart: how far on, or one less than how far back

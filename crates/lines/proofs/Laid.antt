@@ -78,21 +78,6 @@ laid-two at first second run fits here made there done = (
   done ∙ rw (here, made) (placed-on at first run fits second),
 )
 
--- a word, a text and a last text
-pub laid-three :
-    (at : ℕ) (word text last run : List ℕ) {p q r : ℕ} {one two three : List ℕ}
-    → at + (length word + length text) ≤ length run
-    → p ≡ at + length word
-    → one ≡ placed at word run
-    → q ≡ p + length text
-    → two ≡ placed p text one
-    → r ≡ q + length last
-    → three ≡ placed q last two
-    → (r ≡ at + length (word ++ (text ++ last))) × (three ≡ placed at (word ++ (text ++ last)) run)
-laid-three at word text last run fits p one q two r three =
-    let both = laid-two at word text run (omega arith) p one q two in
-    rw append-assoc at (laid-two at (word ++ text) last run (rw length-append fits) (both .0) (both .1) r three)
-
 -- a run that starts with a word is as long as the word
 pub starts-within : (word run : List ℕ) → length word ≤ length (placed 0 word run)
 unfolding placed

@@ -1,18 +1,15 @@
 // Numbers as text.
 ghost use mathlib.Core.Path.{_≡_};
-ghost use Prim.Native.Nat.{_+_, _≤_};
-ghost use lib.ListN.{length};
-ghost use Rattle.runs.specs.Run.{placed};
+ghost use Rattle.lines.specs.Gathered.{placeAfter, outAfter};
 ghost use Rattle.lines.specs.Lines.{decimal, hexDigit};
-use crate::laying::lay;
+use crate::laying::append;
 
-pub fn lay_decimal(number: u64, text: &mut [u8], at: usize) -> usize
-    requires { ⌜ at + length (decimal number) ≤ length (now text) ⌝ }
-    ensures { λ r. ⌜ (r ≡ at + length (decimal number)) × (now (text .exit) ≡ placed at (decimal number) (now (text .entry))) ⌝ }
+pub fn append_decimal(number: u64, text: &mut [u8], at: usize) -> usize
+    ensures { λ r. ⌜ (r ≡ placeAfter (decimal number) at (now (text .entry))) × (now (text .exit) ≡ outAfter (decimal number) at (now (text .entry))) ⌝ }
 {
     let mut room = [0u8; 20];
     let count = io::decimal(number, &mut room);
-    lay(&room[..count], text, at)
+    append(&room[..count], text, at)
 }
 
 pub fn hex_digit(number: u8) -> u8

@@ -5,7 +5,7 @@ ghost use lib.ListN.{length};
 ghost use Rattle.runs.specs.Run.{placed};
 ghost use Rattle.lines.specs.Gathered.{placeAfter, outAfter};
 
-pub fn lay(text: &[u8], out: &mut [u8], at: usize) -> usize
+fn lay(text: &[u8], out: &mut [u8], at: usize) -> usize
     requires { ⌜ at + length (now text) ≤ length (now out) ⌝ }
     ensures { λ r. ⌜ (r ≡ at + length (now (text .entry))) × (now (out .exit) ≡ placed at (now (text .entry)) (now (out .entry))) ⌝ }
 {

@@ -7,9 +7,9 @@ ghost use Rattle.runs.specs.Run.{placed};
 ghost use Rattle.lines.specs.Characters.{space, lineFeed};
 ghost use Rattle.lines.specs.Lines.{colon, twoDigits, beforeFrames, addressText, groupsText};
 ghost use Rattle.lines.specs.Lines.{acceptedText, refusedText, lineOf, endLineOf};
+use crate::digits::append_decimal;
 use crate::digits::hex_digit;
-use crate::digits::lay_decimal;
-use crate::laying::lay;
+use crate::laying::append;
 use clock::Flag;
 use reader::Heard;
 use record::Record;
@@ -77,17 +77,17 @@ fn lay_accepted(r: Record, text: &mut [u8], at: usize) -> usize
 {
     let address = address_text(r);
     let groups = groups_text(r);
-    let middle = lay(&address, text, at);
-    lay(&groups, text, middle)
+    let middle = append(&address, text, at);
+    append(&groups, text, middle)
 }
 
 fn lay_refused(number: u8, text: &mut [u8], at: usize) -> usize
     requires { ⌜ at + 13 ≤ length (now text) ⌝ }
     ensures { λ n. ⌜ (n ≡ at + length (refusedText number)) × (now (text .exit) ≡ placed at (refusedText number) (now (text .entry))) ⌝ }
 {
-    let word = lay(b" refused ", text, at);
-    let end = lay_decimal(number as u64, text, word);
-    lay(b"\n", text, end)
+    let word = append(b" refused ", text, at);
+    let end = append_decimal(number as u64, text, word);
+    append(b"\n", text, end)
 }
 
 pub fn line(bits: u64, heard: Heard, text: &mut [u8; ROOM]) -> usize
@@ -96,11 +96,11 @@ pub fn line(bits: u64, heard: Heard, text: &mut [u8; ROOM]) -> usize
     match heard {
         Heard::Nothing => 0,
         Heard::Accepted(r) => {
-            let at = lay_decimal(bits, text, 0);
+            let at = append_decimal(bits, text, 0);
             lay_accepted(r, text, at)
         }
         Heard::Refused(number) => {
-            let at = lay_decimal(bits, text, 0);
+            let at = append_decimal(bits, text, 0);
             lay_refused(number, text, at)
         }
     }
@@ -109,7 +109,7 @@ pub fn line(bits: u64, heard: Heard, text: &mut [u8; ROOM]) -> usize
 pub fn end_line(bits: u64, text: &mut [u8; ROOM]) -> usize
     ensures { λ n. ⌜ (n ≡ length (endLineOf bits)) × (now (text .exit) ≡ placed 0 (endLineOf bits) (now (text .entry))) ⌝ }
 {
-    let word = lay(b"end ", text, 0);
-    let end = lay_decimal(bits, text, word);
-    lay(b"\n", text, end)
+    let word = append(b"end ", text, 0);
+    let end = append_decimal(bits, text, word);
+    append(b"\n", text, end)
 }

@@ -10,6 +10,10 @@ pub mod Words
 pub mod Evened
 -- Rows      the lists of refusals stand in the table's order
 pub mod Rows
+-- ReadTests what each test of a read leads to
+pub mod ReadTests
+-- WriteTests what each test of a write leads to
+pub mod WriteTests
 -- RoundTrip accepted words and acceptable records match one to one
 pub mod RoundTrip
 -- Apart     places of an accepted word at which it has not both this bit and the next set

@@ -5,12 +5,14 @@
 -- Answers   what is heard in a register
 -- Taken     the reader after a bit holds the bits so far, and passes the check
 -- Turns     a block begins, goes on and ends
+-- FeedTests what each test of a turn of a block leads to
 pub mod Registers
 pub mod Pushed
 pub mod Blanks
 pub mod Answers
 pub mod Taken
 pub mod Turns
+pub mod FeedTests
 -- What is reached, and 13:
 -- Passing   a reader whose mode and state are sound stays so
 -- Reached   the check passes exactly for the states that feeding a fresh reader reaches

@@ -6,6 +6,8 @@ pub mod Judged
 pub mod Accepted
 -- Fields    fields side by side, for every list of widths
 pub mod Fields
+-- Quarters  four quarters of sixteen bits are the fields of the layout side by side
+pub mod Quarters
 -- Rows      the list of refusals stands in the table's order
 pub mod Rows
 -- RoundTrip reading what was written, and writing what was read

@@ -2,16 +2,22 @@
 -- Stride    every eighth element: the ones of a remainder by 8
 -- Shape     how long the parts of a line are, and that they are bits
 -- Turns     the loops begin, go on and end
+-- InfoTurns the loop over the information bits begins, goes on and ends
 -- Answers   a list of refusals that goes on in another
 pub mod Lists
 pub mod Stride
 pub mod Answers
 pub mod Shape
 pub mod Turns
+pub mod InfoTurns
 -- Crc       the eight bits that make every count even, and that no others do
 -- Standing  where the information bits and the pairs stand
 pub mod Crc
 pub mod Standing
+-- ThreeParts the parts of a line, lent one after the other, come back as the line
+pub mod ThreeParts
+-- ReadTests what each test of a read leads to
+pub mod ReadTests
 -- Whole     a line and its 64 bits, one to one
 pub mod Whole
 -- RoundTrip reading what was written, and writing what was read

@@ -1,61 +1,9 @@
 -- `atc::reading::read` meets its contract: the form refuses as the list's first rows do, then the type, then the record.
 -- Assumes nothing.
-use mathlib.Core.Path.{_≡_, sym, ap, _∙_}
-use Prim.Native.Nat.{ℕ, _≤_, _<_}
-use native.Mathlib.Omega.{arith}
-use mathlib.Core.List.{List}
-use lib.Dec.{eqb}
-use lib.ListN.{length, take, drop}
-use borrow.Author.Tests.{lt-ltb, le-ltb, eqb-true, not-false}
 use borrow.Author.Needs.{needs}
-use Rattle.refusals.specs.Answer.{Clear}
-use Rattle.clock.specs.declared.types.Verdict.{Verdict}
-use Rattle.clock.specs.declared.types.Verdict.the-variants.{Sound, Refused as Unsound}
-use Rattle.clock.specs.Calls.{verdictOf}
-use Rattle.clock.proofs.Verdicts.{refused-by, sound-clear}
-use Rattle.record.specs.declared.types.Record.{Record}
-use Rattle.record.specs.declared.types.Unpacked.{Unpacked}
-use Rattle.record.specs.declared.types.Unpacked.the-variants.{Holds as Held, Refused as Unheld}
-use Rattle.record.specs.Calls.{unpackedOf}
-use Rattle.atc.specs.declared.types.Packet.the-variants.{Holds, Refused as Unread}
-use Rattle.atc.specs.Words.{infoIn, byteIn}
-use Rattle.atc.specs.Packet.{secondIn}
-use Rattle.atc.specs.Calls.{formRefusals, contentsWith, readOf}
-use Rattle.atc.proofs.Answers.{packetAs, past-the-form, past-the-type}
+use Rattle.atc.proofs.ReadTests.{refused, to-14, to-22, high-type, unheld, held}
 use Rattle.atc.proofs.reading.read.Statement.{statement}
 use Rattle.atc.proofs.reading.read.Tie as tie
-
-module _ (mode : ℕ) (words : List ℕ) (found : Verdict) (judged : found ≡ verdictOf (formRefusals mode words)) where
-  refused : (n : ℕ) → found ≡ Unsound n → Unread n ≡ readOf mode words
-  unfolding readOf
-  refused n e = refused-by Unread _ (formRefusals mode words) found judged n e
-
-  module _ (sound : found ≡ Sound) where
-    clear : Clear (formRefusals mode words)
-    clear = sound-clear Unread (Unread 0) (formRefusals mode words) found judged sound
-
-    size : length words ≡ 23
-    size = eqb-true (length words) 23 (not-false (eqb (length words) 23) (clear .0))
-
-    to-14 : 14 ≤ length words
-    to-14 = omega (arith, size)
-
-    to-22 : 22 ≤ length words
-    to-22 = omega (arith, size)
-
-    module _ (type : ℕ) (typed : type ≡ byteIn (take 8 (drop 6 words))) where
-      high-type : 2 < type → Unread 7 ≡ readOf mode words
-      high-type high = sym (past-the-form mode words clear ∙ rw (← typed, lt-ltb 2 type high))
-
-      module _ (low : type ≤ 2) (info : ℕ) (gathered : info ≡ infoIn (take 16 (drop 6 words))) (unpacked : Unpacked) (said : unpacked ≡ unpackedOf mode info) where
-        whole : packetAs type (secondIn words) unpacked ≡ readOf mode words
-        whole = rw (said, gathered, typed) (sym (past-the-type mode words clear (rw (← typed) (le-ltb 2 type low))))
-
-        unheld : (n : ℕ) → unpacked ≡ Unheld n → Unread n ≡ readOf mode words
-        unheld n e = ap (packetAs type (secondIn words)) (sym e) ∙ whole
-
-        held : (r : Record) (second : ℕ) → second ≡ byteIn (take 8 (drop 14 words)) → unpacked ≡ Held r → Holds (contentsWith r type second) ≡ readOf mode words
-        held r second b e = rw b (ap (packetAs type (secondIn words)) (sym e) ∙ whole)
 
 judge-requires : tie.Need-judge-requires
 judge-requires c κs = search needs

@@ -1,32 +1,12 @@
 -- `clock::counting::count` meets its contract: the place of the address at the mode's rate, less what drop-frame skips.
 -- Assumes nothing.
-use mathlib.Core.Path.{_≡_, sym}
-use mathlib.Core.Bool.{Bool, true, false}
-use Prim.Native.Nat.{ℕ, _-_, _*_, _/_, _≤_, _<_}
-use native.Mathlib.Nat.{sub-zero}
+use Prim.Native.Nat.{_<_}
 use native.Mathlib.Omega.{arith}
 use borrow.Author.Needs.{needs}
-use Rattle.clock.specs.declared.types.Address.{Address}
-use Rattle.clock.specs.Modes.{framesInSecond}
-use Rattle.clock.specs.Counting.{minutesOf, placeOf, countOf}
-use Rattle.clock.proofs.Sizes.{Bytes, some-rate, rate-small, place-small, place-large}
+use Rattle.clock.specs.Counting.{placeOf}
+use Rattle.clock.proofs.CountTests.{dropped, whole, large, small}
 use Rattle.clock.proofs.counting.count.Statement.{statement}
 use Rattle.clock.proofs.counting.count.Tie as tie
-
-module _ (mode fps : ℕ) (drop : Bool) (a : Address) (rate : fps ≡ framesInSecond mode) where
-  dropped : drop ≡ true → placeOf fps a - 2 * (minutesOf a - minutesOf a / 10) ≡ countOf (framesInSecond mode) drop a
-  unfolding countOf
-  dropped d = rw (← rate, d)
-
-  whole : drop ≡ false → placeOf fps a ≡ countOf (framesInSecond mode) drop a
-  unfolding countOf
-  whole d = rw (← rate, d) (sym (sub-zero (placeOf fps a)))
-
-  large : 60 * minutesOf a ≤ placeOf fps a
-  large = place-large fps a (rw rate (some-rate mode))
-
-  small : Bytes a → placeOf fps a < 30000000
-  small b = place-small fps a b (rw rate (rate-small mode))
 
 frames-in-second-requires : tie.Need-frames-in-second-requires
 frames-in-second-requires c κs = search needs
@@ -60,7 +40,7 @@ fits : (c : tie.After-struct-known4) → placeOf (c .before .before .before .bef
 fits c =
     let args = c .before .before .before .before .before .args in
     let call = c .before .before .before .before .frames-in-second in
-    small (args .mode) (call .result) (args .drop) (args .a) (call .ensures)
+    small (args .mode) (call .result) (args .a) (call .ensures)
     (record { hours = search needs; minutes = search needs; seconds = search needs; frames = search needs })
 
 mul-place-2 : tie.Need-mul-place-2
@@ -79,7 +59,7 @@ sub-result-2 : tie.Need-sub-result-2
 sub-result-2 c =
     let args = c .before .before .before .before .before .before .args in
     let call = c .before .before .before .before .before .frames-in-second in
-    omega (arith, large (args .mode) (call .result) (args .drop) (args .a) (call .ensures))
+    omega (arith, large (args .mode) (call .result) (args .a) (call .ensures))
 
 returns : tie.Need-returns
 returns c = search dropped

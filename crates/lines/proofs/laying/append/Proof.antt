@@ -2,32 +2,30 @@
 -- Assumes nothing.
 use borrow.Author.Needs.{needs}
 use Prim.Native.Nat.{ℕ, _+_, _-_, _≤_, _<_}
-use mathlib.Core.Path.{_≡_}
 use mathlib.Core.List.{List}
 use native.Mathlib.Omega.{arith}
 use lib.ListN.{length}
 use borrow.Author.Tests.{lt-ltb, le-ltb}
-use Rattle.runs.specs.Run.{placed}
 use Rattle.lines.specs.Gathered.{placeAfter, outAfter}
+use Rattle.lines.proofs.Appends.{Appended, Stands}
 use Rattle.lines.proofs.laying.append.Statement.{statement}
 use Rattle.lines.proofs.laying.append.Tie as tie
 
 module _ (text out : List ℕ) (at : ℕ) where
-  without-room : length out < at + length text → (at ≡ placeAfter text at out) × (out ≡ outAfter text at out)
+  without-room : length out < at + length text → Appended text at out at out
   unfolding placeAfter outAfter
   without-room low = let none = lt-ltb (length out) (at + length text) low in (rw none, rw none)
 
-  past-the-end : length out < at → (at ≡ placeAfter text at out) × (out ≡ outAfter text at out)
+  past-the-end : length out < at → Appended text at out at out
   past-the-end low = without-room (omega arith)
 
-  too-few : at ≤ length out → length out - at < length text → (at ≡ placeAfter text at out) × (out ≡ outAfter text at out)
-  too-few within low = without-room (omega arith)
+  module _ (within : at ≤ length out) where
+    too-few : length out - at < length text → Appended text at out at out
+    too-few low = without-room (omega arith)
 
-  laid :
-      at ≤ length out → length text ≤ length out - at → {place : ℕ} {after : List ℕ} → place ≡ at + length text → after ≡ placed at text out
-      → (place ≡ placeAfter text at out) × (after ≡ outAfter text at out)
-  unfolding placeAfter outAfter
-  laid within enough told made = let room = le-ltb (length out) (at + length text) (omega arith) in (rw room told, rw room made)
+    laid : length text ≤ length out - at → {place : ℕ} {after : List ℕ} → Stands text at out place after → Appended text at out place after
+    unfolding placeAfter outAfter
+    laid enough made = let room = le-ltb (length out) (at + length text) (omega arith) in (rw room (made .0), rw room (made .1))
 
 returns : tie.Need-returns
 returns c = past-the-end _ _ _ (c .if1 .taken)
@@ -45,7 +43,7 @@ same-length : tie.Need-same-length
 same-length c = search needs
 
 returns-3 : tie.Need-returns-3
-returns-3 c = laid _ _ _ (c .before .before .before .before .before .if1 .left) (c .before .before .before .before .if2 .left) (c .before .before .lay .ensures .0) (c .before .before .lay .ensures .1)
+returns-3 c = laid _ _ _ (c .before .before .before .before .before .if1 .left) (c .before .before .before .before .if2 .left) (c .before .before .lay .ensures)
 
 pub append-spec : {M : Type 1} → statement M
 append-spec = tie.close (tie.spec returns sub-if2 returns-2 lay-requires same-length returns-3)

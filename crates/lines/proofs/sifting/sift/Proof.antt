@@ -1,39 +1,14 @@
 -- `lines::sifting::sift` meets its contract. At each turn the bits of the characters read stand at the run's start; what is left to do is
 -- the rest of the run.
 -- Assumes nothing.
-use Prim.Native.Nat.{ℕ, _+_, _-_, _≤_, _<_}
-use mathlib.Core.Path.{_≡_, sym, _∙_}
-use mathlib.Core.Bool.{Bool, true, false}
-use mathlib.Core.List.{List}
+use Prim.Native.Nat.{_-_}
 use native.Mathlib.Omega.{arith}
-use lib.ListN.{length, set, getD}
-use Rattle.runs.specs.Run.{placed}
-use Rattle.lines.specs.Characters.{isSkipped, isDigit, bitsIn, siftedOf, zeroDigit}
+use lib.ListN.{length, getD}
 use Rattle.lines.specs.Loops.{Sifting}
-use Rattle.lines.proofs.Sifts.{digit-high, behind, sift-begins, sift-long, sift-skips, sift-takes, sift-stops, sift-ends}
+use Rattle.lines.proofs.Sifts.{behind, sift-begins, sift-long, sift-ends}
+use Rattle.lines.proofs.SiftTests.{is-high, writes, falls, skips, takes, stops}
 use Rattle.lines.proofs.sifting.sift.Statement.{statement}
 use Rattle.lines.proofs.sifting.sift.Tie as tie
-
-is-high : (c : ℕ) (digit : Bool) → digit ≡ isDigit c → digit ≡ true → zeroDigit ≤ c
-is-high c digit asked t = digit-high c (sym asked ∙ t)
-
-module _ (whole run : List ℕ) (read write : ℕ) (s : Sifting whole run read write) (low : read < length run) where
-  writes : write < length run
-  writes = omega (arith, behind whole run read write s)
-
-  falls : length whole - (read + 1) < length whole - read
-  falls = omega (arith, sift-long whole run read write s)
-
-  module _ (skipped : Bool) (asked : skipped ≡ isSkipped (getD run read 0)) where
-    skips : skipped ≡ true → Sifting whole run (read + 1) write
-    skips t = sift-skips whole run read write s low (sym asked ∙ t)
-
-    module _ (digit : Bool) (asked-too : digit ≡ isDigit (getD run read 0)) (u : skipped ≡ false) where
-      takes : digit ≡ true → Sifting whole (set run write (getD run read 0 - zeroDigit)) (read + 1) (write + 1)
-      takes t = sift-takes whole run read write s low (sym asked ∙ u) (sym asked-too ∙ t)
-
-      stops : digit ≡ false → (record { bits = write; more = false } ≡ siftedOf whole) × (run ≡ placed 0 (bitsIn whole) whole)
-      stops t = sift-stops whole run read write s low (sym asked ∙ u) (sym asked-too ∙ t)
 
 abbrev Inv-loop : tie.InvT-loop
 Inv-loop run₀ read₀ write₀ run read write = Sifting run₀ run read write
@@ -63,7 +38,9 @@ is-digit-requires : tie.Need-is-digit-requires Inv-loop μ-loop
 is-digit-requires c κs = tt
 
 sub-run : tie.Need-sub-run Inv-loop μ-loop
-sub-run c = omega (arith, is-high (getD (c .before .before .before .before .before .before .loop .run) (c .before .before .before .before .before .before .loop .read) 0) _ (c .before .is-digit .ensures) (c .if2 .taken))
+sub-run c =
+    let turn = c .before .before .before .before .before .before .loop in
+    omega (arith, is-high (getD (turn .run) (turn .read) 0) _ (c .before .is-digit .ensures) (c .if2 .taken))
 
 slice-write-run : tie.Need-slice-write-run Inv-loop μ-loop
 slice-write-run c = search writes

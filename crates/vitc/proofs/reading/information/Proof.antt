@@ -1,45 +1,13 @@
 -- `vitc::reading::information` meets its contract. At each turn the number is that of the information bits from the n-th on.
 -- Assumes nothing.
-use mathlib.Core.Path.{_≡_}
-use Prim.Native.Nat.{ℕ, zero, suc, _+_, _-_, _*_, _^_, _≤_, _<_}
+use Prim.Native.Nat.{_-_, _^_, _≤_, _<_}
 use native.Mathlib.Omega.{arith}
-use mathlib.Core.List.{List}
-use lib.ListN.{length, getD}
+use lib.ListN.{getD}
 use Rattle.runs.specs.Loops.{Gathering}
-use Rattle.runs.proofs.Turns.{gather-begins, gather-turns, gather-room, gather-ends}
-use Rattle.vitc.specs.Line.{placeOf, informationOf, infoIn}
-use Rattle.vitc.specs.Loops.{BitRun}
-use Rattle.vitc.proofs.Lists.{length-each, getD-each, within-at}
+use Rattle.vitc.specs.Line.{placeOf, informationOf}
+use Rattle.vitc.proofs.InfoTurns.{begun, room, bit, turned, done}
 use Rattle.vitc.proofs.reading.information.Statement.{statement}
 use Rattle.vitc.proofs.reading.information.Tie as tie
-
-module _ (line : List ℕ) where
-  begun : Gathering (informationOf line) 0 64
-  unfolding informationOf
-  begun =
-      let long : length (informationOf line) ≡ 64 = length-each 64 (λ n. getD line (placeOf n) 0) in
-      rw long at (gather-begins (informationOf line) (omega arith))
-
-  module _ (all : BitRun 90 line) (number n : ℕ) (g : Gathering (informationOf line) number n) (some : 0 < n) where
-    here : Gathering (informationOf line) number (suc (n - 1))
-    here = let same : suc (n - 1) ≡ n = omega arith in rw same g
-
-    room : number < 2 ^ 63
-    room = gather-room (informationOf line) number (n - 1) here
-
-    bit : getD line (placeOf (n - 1)) 0 ≤ 1
-    bit = within-at 1 line (placeOf (n - 1)) (all .clean)
-
-    turned : n ≤ 64 → Gathering (informationOf line) (2 * number + getD line (placeOf (n - 1)) 0) (n - 1)
-    unfolding informationOf
-    turned h =
-        let at : getD (informationOf line) (n - 1) 0 ≡ getD line (placeOf (n - 1)) 0 = getD-each 64 (λ n. getD line (placeOf n) 0) (n - 1) (omega arith) in
-        rw at at (gather-turns (informationOf line) number (n - 1) here (rw at bit))
-
-  done : (number n : ℕ) → Gathering (informationOf line) number n → n ≤ 0 → number ≡ infoIn line
-  done number n g none =
-      let zero : n ≡ 0 = omega arith in
-      gather-ends (informationOf line) number (rw zero at g) .0
 
 abbrev Inv-loop : tie.InvT-loop
 Inv-loop line number₀ n₀ number n = (n ≤ 64) × Gathering (informationOf line) number n
@@ -65,16 +33,21 @@ add-bit-2 c = omega arith
 shared-slice-read-bit : tie.Need-shared-slice-read-bit Inv-loop μ-loop
 shared-slice-read-bit c = omega arith
 
+-- at each turn the number has room for one bit more, and what is read is a bit
+has-room : (c : tie.After-shared-slice-known Inv-loop μ-loop) → c .before .before .loop .number < 2 ^ 63
+has-room c = search room
+
+is-bit : (c : tie.After-shared-slice-known Inv-loop μ-loop) → getD (c .before .before .before .args .line .now) (placeOf (c .before .before .loop .n - 1)) 0 ≤ 1
+is-bit c = search bit
+
 mul-number : tie.Need-mul-number Inv-loop μ-loop
-mul-number c = let low : c .before .before .loop .number < 2 ^ 63 = search room in omega arith
+mul-number c = omega (arith, has-room c)
 
 cast-number : tie.Need-cast-number Inv-loop μ-loop
-cast-number c = omega (arith, within-at 1 (c .before .before .before .args .line .now) (placeOf (c .before .before .loop .n - 1)) (c .before .before .before .pre .clean))
+cast-number c = omega (arith, is-bit c)
 
 add-number : tie.Need-add-number Inv-loop μ-loop
-add-number c =
-    let low : c .before .before .loop .number < 2 ^ 63 = search room in
-    omega (arith, within-at 1 (c .before .before .before .args .line .now) (placeOf (c .before .before .loop .n - 1)) (c .before .before .before .pre .clean))
+add-number c = omega (arith, has-room c, is-bit c)
 
 loop-less : tie.Need-loop-less Inv-loop μ-loop
 loop-less c = omega arith

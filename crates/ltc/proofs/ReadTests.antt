@@ -1,0 +1,78 @@
+-- What each test of a read leads to: the row of the list that applies, or what the information bits are heard as.
+-- Assumes nothing.
+use mathlib.Core.Path.{_≡_, ap, sym, _∙_}
+use mathlib.Core.Bool.{true, false, or-true}
+use Prim.Native.Nat.{ℕ}
+use mathlib.Core.List.{List}
+use native.Mathlib.Omega.{arith}
+use lib.Dec.{ltb}
+use lib.ListN.{length, take, drop}
+use lib.Seq.{take-all}
+use borrow.Author.Tests.{eq-eqb, ne-eqb}
+use Rattle.bits.specs.Bits.{value, someAbove}
+use Rattle.runs.specs.declared.carry.Gathered.{Gathered}
+use Rattle.runs.specs.declared.carry.Gathered.the-variants.{Number, Refused as Ungathered}
+use Rattle.runs.specs.Gather.{gatheredOf}
+use Rattle.runs.specs.Run.{same}
+use Rattle.runs.proofs.Same.{same-itself, gathered-is, not-gathered}
+use Rattle.record.specs.declared.types.Unpacked.{Unpacked}
+use Rattle.record.specs.declared.types.Unpacked.the-variants.{Refused as Unheld}
+use Rattle.ltc.specs.Word.{syncWord, infoIn, wordWith, oddZeros}
+use Rattle.ltc.specs.Calls.{readOf, heardOf}
+use Rattle.ltc.proofs.Heard.{low-length, high-length, above-in-parts, sync-by-number, other-sync, word-is}
+
+module _ (mode : ℕ) (word : List ℕ) where
+  pub wrong-size : (length word ≡ 80 → ⊥) → Unheld 1 ≡ readOf mode word
+  unfolding readOf
+  wrong-size other = rw (ne-eqb (length word) 80 other)
+
+  module _ (long : length word ≡ 80) where
+    pub no-mode : ltb 2 mode ≡ true → Unheld 2 ≡ readOf mode word
+    unfolding readOf
+    no-mode e = rw (eq-eqb (length word) 80 long, e)
+
+    module _ (known : ltb 2 mode ≡ false) (low high : Gathered)
+        (first : low ≡ gatheredOf (take 64 word)) (last : high ≡ gatheredOf (take 16 (drop 64 word))) where
+      high-part : take 16 (drop 64 word) ≡ drop 64 word
+      high-part = take-all 16 (drop 64 word) (omega (arith, high-length word long))
+
+      pub no-bit-low : (n : ℕ) → low ≡ Ungathered n → Unheld 3 ≡ readOf mode word
+      unfolding readOf
+      no-bit-low n e =
+          let above = not-gathered (take 64 word) n (omega (arith, low-length word long)) (sym first ∙ e) in
+          rw (eq-eqb (length word) 80 long, known, above-in-parts word long, above)
+
+      pub no-bit-high : (n : ℕ) → high ≡ Ungathered n → Unheld 3 ≡ readOf mode word
+      unfolding readOf
+      no-bit-high n e =
+          let above = not-gathered (drop 64 word) n (omega (arith, high-length word long)) (ap gatheredOf (sym high-part) ∙ sym last ∙ e) in
+          rw (eq-eqb (length word) 80 long, known, above-in-parts word long, above, or-true (someAbove 1 (take 64 word)))
+
+      module _ (info sync : ℕ) (is-low : low ≡ Number info) (is-high : high ≡ Number sync) where
+        low-is : (someAbove 1 (take 64 word) ≡ false) × (info ≡ value (take 64 word))
+        low-is = gathered-is (take 64 word) info (sym first ∙ is-low)
+
+        high-is : (someAbove 1 (drop 64 word) ≡ false) × (sync ≡ value (drop 64 word))
+        high-is = gathered-is (drop 64 word) sync (ap gatheredOf (sym high-part) ∙ sym last ∙ is-high)
+
+        clean : someAbove 1 word ≡ false
+        clean = above-in-parts word long ∙ rw (low-is .0, high-is .0)
+
+        pub another-sync : (sync ≡ 0xbffc → ⊥) → Unheld 4 ≡ readOf mode word
+        unfolding readOf
+        another-sync other =
+            rw (
+              eq-eqb (length word) 80 long,
+              known,
+              clean,
+              other-sync word long (low-is .0) (high-is .0) (λ e. other (high-is .1 ∙ e)),
+            )
+
+        pub heard : sync ≡ 0xbffc → (r : Unpacked) → r ≡ heardOf mode info → r ≡ readOf mode word
+        unfolding readOf heardOf
+        heard e r told =
+            let whole = word-is word long (low-is .0) (high-is .0) (sym (high-is .1) ∙ e) in
+            let seen : same (drop 64 word) syncWord ≡ true =
+            rw (sync-by-number word long (low-is .0) (high-is .0) (sym (high-is .1) ∙ e)) (same-itself syncWord) in
+            let odd : oddZeros word ≡ oddZeros (wordWith (infoIn word)) = ap oddZeros whole in
+            told ∙ rw (low-is .1, eq-eqb (length word) 80 long, known, clean, seen, odd)
