@@ -73,7 +73,7 @@ pub number-rows-rise : (mode : ℕ) (drop : Flag) (n : ℕ) → Rising (numberRe
 number-rows-rise mode drop n = ((lit< tt, (lit< tt, tt)), ((lit< tt, tt), (tt, tt)))
 
 module _ (mode : ℕ) (drop : Flag) where
-  -- an address is clear of refusals exactly where the mode counts and the clock shows it
+  -- where an address is clear of refusals, the mode counts and the clock shows it
   pub clear-address :
       (a : Address) → Clear (refusalsOf mode drop a)
       → Counts mode (isYes drop) × (turnedAway (framesInSecond mode) (isYes drop) a ≡ false)
@@ -155,7 +155,7 @@ module _ (mode : ℕ) (drop : Flag) where
   pub refused-exactly :
       ltb 2 mode ≡ false → (ltb mode 2 && isYes drop) ≡ false → (a : Address)
       → ((numberOf mode drop a ≡ Unnumbered 8) ⊎ (numberOf mode drop a ≡ Unnumbered 9))
-      ↔ ((n : ℕ) → n < framesInDay mode (isYes drop) → shown (framesInSecond mode) (isYes drop) n ≡ a → ⊥)
+      ↔ ((n : ℕ) → shown (framesInSecond mode) (isYes drop) n ≡ a → ⊥)
   unfolding numberOf
   refused-exactly known allowed a = (away (turnedAway fps (isYes drop) a) refl, by-number (turnedAway fps (isYes drop) a) refl)
     where
@@ -169,15 +169,15 @@ module _ (mode : ℕ) (drop : Flag) where
       Turned = (numberOf mode drop a ≡ Unnumbered 8) ⊎ (numberOf mode drop a ≡ Unnumbered 9)
 
       Never : Type 0
-      Never = (n : ℕ) → n < framesInDay mode (isYes drop) → shown fps (isYes drop) n ≡ a → ⊥
+      Never = (n : ℕ) → shown fps (isYes drop) n ≡ a → ⊥
 
       accepted : turnedAway fps (isYes drop) a ≡ false → numberOf mode drop a ≡ Number (record { 0 = countOf fps (isYes drop) a })
       accepted stands = otherwise-accepted Unnumbered _ (refusalsOf mode drop a) (address-clear a known allowed stands)
 
       away : (t : Bool) → turnedAway fps (isYes drop) a ≡ t → Turned → Never
-      away true e turned n low same = never-shown (kind .rate) a e n same
-      away false e (inl eight) n low same = no-number 8 (sym eight ∙ accepted e)
-      away false e (inr nine) n low same = no-number 9 (sym nine ∙ accepted e)
+      away true e turned n same = never-shown (kind .rate) a e n same
+      away false e (inl eight) n same = no-number 8 (sym eight ∙ accepted e)
+      away false e (inr nine) n same = no-number 9 (sym nine ∙ accepted e)
 
       by-number : (t : Bool) → turnedAway fps (isYes drop) a ≡ t → Never → Turned
       by-number true e never = which (outside fps a) refl
@@ -185,6 +185,4 @@ module _ (mode : ℕ) (drop : Flag) where
           which : (o : Bool) → outside fps a ≡ o → Turned
           which true o = inl (rw (known, o))
           which false o = inr (rw (known, o, kind .nine (skipped a) ∙ (rw o at e)))
-      by-number false e never =
-          let number = address-of-number (kind .rate) a e in
-          absurd (never (countOf fps (isYes drop) a) (rw (kind .day) (number .0)) (shown-at-its-number (kind .rate) a e))
+      by-number false e never = absurd (never (countOf fps (isYes drop) a) (shown-at-its-number (kind .rate) a e))

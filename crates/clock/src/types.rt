@@ -16,7 +16,7 @@ pub struct Address {
     pub frames: SecondFrame,
 }
 
-// Whether an address, or two, can be counted with.
+// Whether what was judged is sound, or the number that it is refused with.
 pub enum Verdict {
     Sound,
     Refused(u8),

@@ -1,4 +1,5 @@
--- A record is clear of its refusals exactly where it is acceptable: where the clock, stepped from midnight, shows its address.
+-- A record is clear of its refusals exactly where it is acceptable: where its mode counts, the clock, stepped from midnight, shows its address, no
+-- unused bit is set and its groups are up to 15.
 -- Assumes nothing.
 use Prim.Native.Nat.{ℕ, zero, suc}
 use mathlib.Core.Path.{_≡_, refl, _∙_}

@@ -25,17 +25,17 @@ use Rattle.vitc.proofs.RoundTrip as vitc
 use Rattle.atc.specs.Calls.{packetOf}
 use Rattle.atc.proofs.RoundTrip as atc
 use Rattle.demands.specs.Modes.{CountingMode}
-use Rattle.demands.specs.Carriers.{Carrier, linear, interval, ancillary, Accepting, Matches}
+use Rattle.demands.specs.Carriers.{Carrier, linear, interval, ancillary, Accepting, Reading, Matches}
 use Rattle.demands.proofs.Accepted.{known, allowed, acceptable-exactly}
 
--- "Frame numbers of a day and addresses match one to one, drop-frame or not": of `clock::number_of` and `clock::address_of`, in every mode. Shut out:
--- drop-frame that skips pictures rather than numbers.
+-- "Frame numbers of a day and addresses match one to one, drop-frame or not": of `clock::number_of` and `clock::address_of`, in every mode.
 pub numbers-and-addresses :
     (mode : ℕ) (drop : Flag) (a : Address) (n : DayFrame) → (numberOf mode drop a ≡ Number n) ↔ (addressOf mode drop n ≡ At a)
 numbers-and-addresses = one-to-one
 
 module _ {mode : ℕ} {drop : Flag} (counts : CountingMode mode drop) where
-  -- every number below the day's count has an address: the one that the clock shows so many steps after midnight
+  -- every number below the day's count has an address: the one that the clock shows so many steps after midnight. Shut out: drop-frame that skips
+  -- pictures rather than numbers, and calls that refuse every number.
   pub every-number : (n : ℕ) → n < framesInDay mode (isYes drop) → addressOf mode drop (record { 0 = n }) ≡ At (shown (framesInSecond mode) (isYes drop) n)
   every-number = address-is-shown mode drop (known counts) (allowed counts)
 
@@ -43,7 +43,7 @@ module _ {mode : ℕ} {drop : Flag} (counts : CountingMode mode drop) where
   -- every minute.
   pub turned-away-exactly :
       (a : Address) → ((numberOf mode drop a ≡ Unnumbered 8) ⊎ (numberOf mode drop a ≡ Unnumbered 9))
-      ↔ ((n : ℕ) → n < framesInDay mode (isYes drop) → shown (framesInSecond mode) (isYes drop) n ≡ a → ⊥)
+      ↔ ((n : ℕ) → shown (framesInSecond mode) (isYes drop) n ≡ a → ⊥)
   turned-away-exactly = refused-exactly mode drop (known counts) (allowed counts)
 
 -- what is known of a carrier: what a done write leaves reads as its content; what reads is written again, has the carrier's size and is taken; and
@@ -65,6 +65,9 @@ accepting carrier law mode c start run room = (
   λ written. law .taken mode c _ (law .done-reads mode c start run room written),
   λ ok. law .read-writes mode c start run (law .elementsOf mode c) room (law .reads mode c ok) .0,
 )
+
+reading : {Content : Type 0} (carrier : Carrier Content) → Laws carrier → Reading carrier
+reading carrier law mode c = (λ read. law .taken mode c (read .0) (read .1), λ ok. (law .elementsOf mode c, law .reads mode c ok))
 
 matches : {Content : Type 0} (carrier : Carrier Content) → Laws carrier → Matches carrier
 matches carrier law mode c start run elements room = (there, back)
@@ -123,8 +126,8 @@ ancillary-laws =
           (acceptable-exactly mode (c .«record») .1 (ok .0), ok .1) (ok .2);
     }
 
--- "Words on the linear track (LTC), vertical interval lines (VITC) and ancillary packets (ATC) .. read or written": written exactly where the clock shows the
--- record's address and no unused bit is set. Shut out: a reader or a writer that refuses each word.
+-- "Words on the linear track (LTC), vertical interval lines (VITC) and ancillary packets (ATC) .. read or written". A write that has room is done exactly
+-- where the record is acceptable, and what else the carrier asks for holds. Shut out: a writer that refuses each record.
 pub linear-accepts : Accepting linear
 linear-accepts = accepting linear linear-laws
 
@@ -134,8 +137,17 @@ interval-accepts = accepting interval interval-laws
 pub ancillary-accepts : Accepting ancillary
 ancillary-accepts = accepting ancillary ancillary-laws
 
--- and what is read and what is written match one to one. Shut out: a writer that writes nothing, or touches another element; a reader that reports one
--- fixed address.
+-- Some elements read as a content exactly where it is taken. Shut out: a reader that refuses each word, one that reports one fixed address.
+pub linear-reads : Reading linear
+linear-reads = reading linear linear-laws
+
+pub interval-reads : Reading interval
+interval-reads = reading interval interval-laws
+
+pub ancillary-reads : Reading ancillary
+ancillary-reads = reading ancillary ancillary-laws
+
+-- And what is read and what is written match one to one. Shut out, with the above: a writer that writes nothing, or touches another element.
 pub linear-matches : Matches linear
 linear-matches = matches linear linear-laws
 

@@ -1,5 +1,5 @@
--- Demand 2 of what carries a record: "Words on the linear track (LTC), vertical interval lines (VITC) and ancillary packets (ATC) mean what
--- ITU-R BT.1366-3 says, read or written".
+-- Demand 2 of what carries a record, "read or written": what is written, what is read, and that the two match one to one. What the elements mean is in
+-- the definitions of the carriers, to be held beside the standard.
 -- Assumes nothing.
 use Prim.Native.Nat.{ℕ, _+_, _<_, _≤_}
 use mathlib.Core.Path.{_≡_}
@@ -68,6 +68,10 @@ module _ {Content : Type 0} (carrier : Carrier Content) where
   Accepting =
       (mode : ℕ) (content : Content) (start : ℕ) (run : List ℕ) → start + carrier .size ≤ length run
       → carrier .Writes mode content start run ↔ carrier .Accepts mode content
+
+  -- And some elements read as a content exactly where the carrier takes it.
+  abbrev pub Reading : Type 0
+  Reading = (mode : ℕ) (content : Content) → ((elements : List ℕ) × carrier .Reads mode elements content) ↔ carrier .Accepts mode content
 
   -- A run of elements reads as a content exactly where a write of the content, given room, is done and leaves these elements from its start on and
   -- every other element as it was. So what is read can be written, and what a writer leaves in the lent run reads as what was written.

@@ -9,7 +9,8 @@ use borrow.Author.Tests.{eqb-true, eqb-false, eq-eqb, ne-eqb}
 use Rattle.clock.specs.declared.types.Flag.{Flag}
 use Rattle.clock.specs.declared.types.Flag.the-variants.{No, Yes}
 use Rattle.record.specs.declared.types.Record.{Record}
-use Rattle.record.specs.Record.{Writable, infoOf, marked}
+use Rattle.record.specs.Record.{infoOf, marked}
+use Rattle.record.specs.Fits.{Writable}
 use Rattle.record.proofs.RoundTrip.{info-below, mark-counts, marked-writable}
 use Rattle.ltc.specs.Word.{wordWith, oddZeros, correctedOf}
 use Rattle.ltc.proofs.Zeros.{odd-by-count}

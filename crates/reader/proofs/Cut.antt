@@ -17,7 +17,8 @@ use Rattle.reader.specs.declared.types.Heard.the-variants.{Nothing, Acce
 use Rattle.reader.specs.declared.types.Blocked.{Blocked}
 use Rattle.reader.specs.Steps.{steppedOf}
 use Rattle.reader.specs.Blocks.{isAnswer, oneMore, going}
-use Rattle.reader.specs.Reach.{fed, answers, said}
+use Rattle.reader.specs.Reach.{fed, answers}
+use Rattle.reader.specs.Cuts.{said}
 use Rattle.reader.proofs.Passing.{not-taken}
 
 pub block-fed : (run : List ℕ) (r : Reader) (limit : ℕ) → fed r (take (going r limit run .taken) run) ≡ going r limit run .reader

@@ -57,7 +57,7 @@ frameIn Nothing = 0
 frameIn (Accepted r) = r .frames .0
 frameIn (Refused n) = 0
 
--- with nothing for each report, a number, or one fixed record: one that never answers, that refuses each word, that reports one fixed address
+-- with nothing for each report, a number, or one fixed record: one that never reports, that refuses each word, that reports one fixed address
 pub no-impostor : (other : Heard) → Follows (relaying (always other)) → ⊥
 unfolding frameIn midnight seven recordOf
 no-impostor other follows =

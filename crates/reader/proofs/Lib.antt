@@ -35,7 +35,7 @@ pub mod StepsCounted
 -- Heeded    a word fed after any past: nothing until its 80th bit, and then its own record
 -- Demand3   each word is reported, as itself, at its 80th bit
 -- Tight     five is tight: a false report at the fifth bit
--- Impostors one that never answers, refuses each word or reports one fixed address fails it
+-- Impostors one that never reports, refuses each word or reports one fixed address fails it
 pub mod Window
 pub mod Gaps
 pub mod Heeded

@@ -16,8 +16,8 @@ use Rattle.reader.specs.declared.types.Heard.{Heard}
 use Rattle.reader.specs.Held.{unreached}
 use Rattle.reader.specs.Steps.{steppedOf}
 use Rattle.reader.specs.Blocks.{isAnswer, going, blockedOf}
-use Rattle.reader.specs.Reach.{fed, answers, said}
-use Rattle.reader.specs.Cuts.{Cut, cutBlock}
+use Rattle.reader.specs.Reach.{fed, answers}
+use Rattle.reader.specs.Cuts.{said, Cut, cutBlock}
 use Rattle.reader.proofs.Cut.{block-fed, block-answers, fed-cut, answers-cut}
 use Rattle.reader.proofs.Passing.{Passing, fed-passing, passing-goes}
 

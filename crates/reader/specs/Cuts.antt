@@ -1,13 +1,18 @@
 -- "Feeding a run of 0s and 1s in blocks cut anywhere, going on after each stop".
 -- Assumes nothing.
-use Prim.Native.Nat.{ℕ, _<_}
+use Prim.Native.Nat.{ℕ, _-_, _<_}
+use mathlib.Core.Bool.{cond}
 use mathlib.Core.List.{List, [], _∷_, _++_}
-use lib.ListN.{take, drop}
+use lib.ListN.{take, drop, replicate}
 use Rattle.reader.specs.declared.types.Reader.{Reader}
 use Rattle.reader.specs.declared.types.Heard.{Heard}
+use Rattle.reader.specs.declared.types.Heard.the-variants.{Nothing}
 use Rattle.reader.specs.declared.types.Blocked.{Blocked}
-use Rattle.reader.specs.Blocks.{blockedOf}
-use Rattle.reader.specs.Reach.{said}
+use Rattle.reader.specs.Blocks.{isAnswer, blockedOf}
+
+-- what a block of a run of 0s and 1s says of the bits that it took, one by one: nothing, but for an answer at the last
+abbrev pub said : Blocked → List Heard
+said block = cond (isAnswer (block .heard)) (replicate (block .taken - 1) Nothing ++ (block .heard ∷ [])) (replicate (block .taken) Nothing)
 
 -- one block: the limit that it is given, and how many of the elements that are left it is lent
 pub record Cut : Type 0 where

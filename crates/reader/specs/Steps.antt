@@ -46,6 +46,6 @@ taking reader bit =
     let bits = push (heldBits reader) bit in
     after (readerWith (reader .mode) bits) (heardIn (reader .mode) bits)
 
--- "A reader refused with 2, 3 or 13 comes back the same, with that bit not taken. A code word refused by the reader has had its bit taken."
+-- "A reader refused with 2, 3 or 13 comes back the same, with that bit not taken .. A code word refused by the reader has had its bit taken."
 unfoldable pub steppedOf : Reader → ℕ → Stepped
 steppedOf reader element = answer (λ (n : ℕ). after reader (Refused n)) (feedRefusals reader element) (taking reader element)

@@ -1,4 +1,4 @@
-// One bit at a time.
+// A step takes one bit; a block takes bits up to the first answer, the limit, a bad element or the end.
 ghost use mathlib.Core.Path.{_≡_};
 ghost use mathlib.Core.Bool.{false};
 ghost use Prim.Native.Nat.{_<_, min};

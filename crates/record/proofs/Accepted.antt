@@ -11,7 +11,8 @@ use Rattle.clock.specs.Clock.{outside}
 use Rattle.clock.proofs.Face.{inside}
 use Rattle.clock.proofs.Sizes.{rate-small}
 use Rattle.record.specs.declared.types.Record.{Record}
-use Rattle.record.specs.Record.{Writable, addressIn, groupAbove15}
+use Rattle.record.specs.Record.{addressIn, groupAbove15}
+use Rattle.record.specs.Fits.{Writable}
 use Rattle.record.specs.Calls.{writeRefusals, withMode}
 
 -- a record that is clear of refusals fits its bits

@@ -7,6 +7,7 @@ use mathlib.Core.Bool.{false}
 use mathlib.Core.List.{List, [], _∷_}
 use native.Mathlib.Omega.{arith}
 use lib.Dec.{ltb}
+use lib.ListN.{drop}
 use borrow.Author.Tests.{ltb-false}
 use Rattle.refusals.specs.Answer.{Clear}
 use Rattle.refusals.proofs.Lowest.{neither}
@@ -41,22 +42,10 @@ small-digits mode info clear =
     let s = neither (ltb 9 (bits 16 19 info)) _ (f .1) in
     let m = neither (ltb 9 (bits 32 35 info)) _ (s .1) in
     let frames : bits 0 3 info + 10 * bits 8 9 info < 30 = omega (arith, within .frames, rate-small mode) in
-    let hours : bits 48 51 info + 10 * bits 56 57 info < 30 = omega (arith, within .hours) in (
-      units (bits 0 3 info) (f .0),
-      (
-        tens 3 (bits 0 3 info) (bits 8 9 info) frames,
-        (
-          units (bits 16 19 info) (s .0),
-          (
-            tens 6 (bits 16 19 info) (bits 24 26 info) (within .seconds),
-            (
-              units (bits 32 35 info) (m .0),
-              (
-                tens 6 (bits 32 35 info) (bits 40 42 info) (within .minutes),
-                (units (bits 48 51 info) (m .1), (tens 3 (bits 48 51 info) (bits 56 57 info) hours, tt)),
-              ),
-            ),
-          ),
-        ),
-      ),
-    )
+    let hours : bits 48 51 info + 10 * bits 56 57 info < 30 = omega (arith, within .hours) in
+    let of-hours : Each (Small info) (drop 6 digits) = (units (bits 48 51 info) (m .1), (tens 3 (bits 48 51 info) (bits 56 57 info) hours, tt)) in
+    let of-minutes : Each (Small info) (drop 4 digits) =
+    (units (bits 32 35 info) (m .0), (tens 6 (bits 32 35 info) (bits 40 42 info) (within .minutes), of-hours)) in
+    let of-seconds : Each (Small info) (drop 2 digits) =
+    (units (bits 16 19 info) (s .0), (tens 6 (bits 16 19 info) (bits 24 26 info) (within .seconds), of-minutes)) in
+    (units (bits 0 3 info) (f .0), (tens 3 (bits 0 3 info) (bits 8 9 info) frames, of-seconds))

@@ -10,7 +10,8 @@ use Rattle.clock.specs.declared.types.Flag.the-variants.{No}
 use Rattle.record.specs.declared.types.Record.{Record}
 use Rattle.record.specs.Layout.{join, layout}
 use Rattle.record.specs.Flags.{bitOf}
-use Rattle.record.specs.Record.{QuarterOf, heldAt, fieldsOf, infoOf}
+use Rattle.record.specs.Record.{heldAt, fieldsOf, infoOf}
+use Rattle.record.specs.Fits.{QuarterOf}
 use Rattle.record.proofs.Places.{held-27, held-43, held-59}
 
 -- a quarter is sixteen bits, with two digits of tens and a first flag or with three and none

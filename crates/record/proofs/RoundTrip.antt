@@ -19,7 +19,8 @@ use Rattle.record.specs.declared.types.Unpacked.the-variants.{Holds, Ref
 use Rattle.record.specs.declared.types.Packed.the-variants.{Bits, Refused as Unpackable}
 use Rattle.record.specs.Layout.{bits, join, split, layout}
 use Rattle.record.specs.Flags.{flagOf, bitOf, flagAt, Places, places}
-use Rattle.record.specs.Record.{recordWith, recordOf, heldIn, heldAt, fieldsOf, infoOf, Writable, digitAbove9, groupAbove15, marked}
+use Rattle.record.specs.Record.{recordWith, recordOf, heldIn, heldAt, fieldsOf, infoOf, digitAbove9, groupAbove15, marked}
+use Rattle.record.specs.Fits.{Writable}
 use Rattle.record.specs.Calls.{withMode, recordRefusals, bitsRefusals, writeRefusals, packedOf, unpackedOf}
 use Rattle.record.proofs.Places.{at25, not-at25}
 use Rattle.record.proofs.Accepted.{writable}

@@ -6,3 +6,5 @@ pub mod Layout
 pub mod Flags
 pub mod Record
 pub mod Calls
+-- Fits      what the parts of a write work with: fields that fit their bits, a quarter of the 64 bits
+pub mod Fits

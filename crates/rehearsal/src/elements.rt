@@ -74,7 +74,7 @@ fn take_word(text: &[u8], run: &mut [u16], place: usize) -> bool {
     true
 }
 
-// How many words there are, "with commas between", or NOWHERE as for bits.
+// How many words there are, "commas between", or NOWHERE as for bits.
 fn words_in(text: &[u8], run: &mut [u16]) -> usize {
     if is_same(text, b"-") {
         return 0;

@@ -163,7 +163,7 @@ fn back_by(frames: u64) -> i32 {
     !on_by(frames - 1)
 }
 
-// COUNT: "from -2147483648 to 2147483647".
+// "COUNT is any signed 32-bit number".
 fn count_in(text: &[u8]) -> Signed {
     if 0 < text.len() {
         if text[0] == b'-' {

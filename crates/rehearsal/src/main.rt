@@ -139,7 +139,7 @@ fn take_all(line: &mut [u8], out: &mut [u8]) -> Progress {
 }
 
 fn main() {
-    // "a line .. is never longer than 2,000 characters"
+    // "a line has at most 2,000 characters"
     let mut line = [0u8; 2000];
     let mut out = io::large_buffer();
     let last = take_all(&mut line, &mut out);

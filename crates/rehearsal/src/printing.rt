@@ -21,7 +21,7 @@ pub fn put_text(out: &mut [u8], at: usize, text: &[u8]) -> usize {
     next
 }
 
-// "A line that is none of these gets `unknown`."
+// "A line that is no request gets `unknown`."
 pub fn put_unknown(out: &mut [u8], at: usize) -> usize {
     put_text(out, at, b"unknown")
 }

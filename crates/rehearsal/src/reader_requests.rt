@@ -134,7 +134,7 @@ fn put_stepped(out: &mut [u8], at: usize, stepped: Stepped) -> usize {
     put_held(out, next, now)
 }
 
-// "as for `step`, and then the count taken".
+// "as for `step`, and then the number of bits taken".
 fn put_blocked(out: &mut [u8], at: usize, blocked: Blocked) -> usize {
     let heard = blocked.heard;
     let reader = blocked.reader;

@@ -86,7 +86,7 @@ fn put_written(out: &mut [u8], at: usize, refusal: u8) -> usize {
     put_refused(out, at, refusal)
 }
 
-// "RUN is the whole run afterwards, refused or not".
+// "RUN is the whole lent run after a write, refused or not".
 fn put_bits_written(
     carrier: Carrier,
     n: &Numbers,

@@ -1,5 +1,5 @@
--- A lent run: "A write fills its own elements from the given start in the middle of the lent run, and touches no other. A refused
--- write leaves every element."
+-- A lent run: "A refused write leaves every element. A write fills its own elements from the given start in the middle of the lent run,
+-- and touches no other."
 -- Assumes nothing.
 use Prim.Native.Nat.{ℕ, _+_}
 use mathlib.Core.Bool.{Bool, true, false, _&&_}

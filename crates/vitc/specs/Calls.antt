@@ -31,7 +31,7 @@ readRefusals mode line =
 unfoldable pub readOf : ℕ → List ℕ → Unpacked
 readOf mode line = answer Unheld (readRefusals mode line) (Holds (recordOf mode (infoIn line)))
 
--- 12 "fewer than 90 elements from the start given, or start past the end"
+-- 12 fewer than 90 elements from the start given, or start past the end
 abbrev pub roomRefusals : ℕ → List ℕ → List Refusal
 roomRefusals start run = (no-room when noRoom 90 start run) ∷ []
 

@@ -11,7 +11,8 @@ use Rattle.clock.specs.Calls.{verdictOf}
 use Rattle.clock.proofs.Verdicts.{refused-by, passed-by, sound-clear}
 use Rattle.record.specs.declared.types.Record.{Record}
 use Rattle.record.specs.declared.types.Packed.the-variants.{Bits, Refused as Unpackable}
-use Rattle.record.specs.Record.{Writable, infoOf, addressIn, groupAbove15}
+use Rattle.record.specs.Record.{infoOf, addressIn, groupAbove15}
+use Rattle.record.specs.Fits.{Writable}
 use Rattle.record.specs.Calls.{fieldRefusals, writeRefusals, withMode, packedOf}
 use Rattle.record.proofs.Accepted.{writable}
 use Rattle.record.proofs.writing.to_bits.Statement.{statement}
