@@ -82,3 +82,11 @@ laid-two at first second run fits here made there done = (
 pub starts-within : (word run : List ℕ) → length word ≤ length (placed 0 word run)
 unfolding placed
 starts-within word run = simp length-append (omega arith)
+
+-- a text that starts with a line of this length
+pub told-within : (line text : List ℕ) {n : ℕ} {after : List ℕ} → n ≡ length line → after ≡ placed 0 line text → n ≤ length after
+told-within line text told made = rw (told, made) (starts-within line text)
+
+-- so many elements at the start of a run
+pub prefix-length : (n : ℕ) (run : List ℕ) → n ≤ length run → n ≡ length (take n run)
+prefix-length n run h = sym (length-take-le n run h)

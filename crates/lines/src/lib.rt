@@ -4,11 +4,15 @@
 // laying     text put into a run
 // digits     numbers as text
 // telling    the line of an answer, and the last line
+// following  a block of bits and its line
 mod digits;
+mod following;
 mod laying;
 mod sifting;
 mod telling;
 
+pub use following::Told;
+pub use following::tell;
 pub use laying::append;
 pub use sifting::Sifted;
 pub use sifting::sift;

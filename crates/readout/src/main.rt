@@ -1,8 +1,8 @@
 // "The program reads characters 0 and 1 in mode 2, skips spaces and line feeds, and ends at the input's end, at any other character, or
 // after 16,777,216 characters in all."
-ghost use Prim.Native.Nat.{min};
+ghost use Prim.Native.Nat.{_≤_, min};
+ghost use lib.ListN.{length};
 ghost use mathlib.Core.Path.{_≡_};
-use reader::Blocked;
 use reader::Reader;
 
 const MODE: u8 = 2;
@@ -14,11 +14,12 @@ const STANDARD_INPUT: i32 = 0;
 
 const STANDARD_OUTPUT: i32 = 1;
 
-// The reader and the bits so far; the place after the lines gathered in the output; whether standard output still takes them; and
-// whether the input goes on.
+// The reader, the bits so far and those that the last block took; the place after the lines gathered in the output; whether standard
+// output still takes them; and whether the input goes on.
 struct Progress {
     reader: Reader,
     bits: u64,
+    taken: usize,
     at: usize,
     open: bool,
     more: bool,
@@ -34,56 +35,60 @@ fn lesser(a: usize, b: usize) -> usize
 }
 
 // The gathered lines go to standard output.
-fn written(now: Progress, out: &[u8]) -> Progress {
-    let end = lesser(now.at, out.len());
-    let mut next = now;
+fn written(before: Progress, out: &[u8]) -> Progress
+    ensures { λ r. ⌜ r .taken ≡ before .taken ⌝ }
+{
+    let end = lesser(before.at, out.len());
+    let mut next = before;
     next.open = io::write_all(STANDARD_OUTPUT, &out[0..end]);
     next.at = 0;
     next
 }
 
-// A line goes to the gathered lines, which are written where the next one might not fit.
-fn gathered(now: Progress, line: &[u8], out: &mut [u8]) -> Progress {
-    let at = lines::append(line, out, now.at);
-    let mut next = now;
-    next.at = at;
-    let left = out.len() - lesser(at, out.len());
+// They are written where the next line might not fit.
+fn with_room(before: Progress, out: &[u8]) -> Progress
+    ensures { λ r. ⌜ r .taken ≡ before .taken ⌝ }
+{
+    let left = out.len() - lesser(before.at, out.len());
     if left < lines::ROOM {
-        return written(next, out);
+        return written(before, out);
     }
-    next
+    before
 }
 
-// "Each answer's line": the bits that a block took are counted, and its answer told.
-fn told(now: Progress, block: Blocked, out: &mut [u8]) -> Progress {
-    let mut next = now;
-    // at most 16,777,216 bits are read, so the sum never wraps
-    next.bits = std::num::wrapping_add_u64(now.bits, block.taken as u64);
-    let reader = block.reader;
-    next.reader = reader;
-    let heard = block.heard;
-    let mut text = [0u8; lines::ROOM];
-    let length = lines::line(next.bits, heard, &mut text);
-    gathered(next, &text[..length], out)
+// A block of the bits, told.
+fn told(before: Progress, run: &[u8], out: &mut [u8]) -> Progress
+    ensures { λ r. ⌜ r .taken ≤ length (now (run .entry)) ⌝ }
+{
+    let reader = before.reader;
+    let told = lines::tell(reader, before.bits, run, out, before.at);
+    let after = told.reader;
+    let next = Progress {
+        reader: after,
+        bits: told.bits,
+        taken: told.taken,
+        at: told.at,
+        open: before.open,
+        more: before.more,
+    };
+    with_room(next, out)
 }
 
 // The bits of a piece, answer by answer.
 fn heard(before: Progress, bits: &[u8], out: &mut [u8]) -> Progress {
     let mut now = before;
     let mut done: usize = 0;
-    while done < bits.len() {
-        let reader = now.reader;
-        let block = reader::block(reader, bits.len(), &bits[done..]);
-        let taken = block.taken;
-        // a sound reader takes at least one of these bits; one that took none would take none again
-        if taken == 0 {
-            return now;
-        }
-        done += taken;
-        now = told(now, block, out);
+    let end = bits.len();
+    while done < end {
+        now = told(now, &bits[done..], out);
         if !now.open {
             return now;
         }
+        // a sound reader takes at least one of these bits; one that took none would take none again
+        if now.taken == 0 {
+            return now;
+        }
+        done += now.taken;
     }
     now
 }
@@ -103,7 +108,8 @@ fn ended(now: Progress, out: &mut [u8]) {
     if now.open {
         let mut text = [0u8; lines::ROOM];
         let length = lines::end_line(now.bits, &mut text);
-        let last = gathered(now, &text[..length], out);
+        let mut last = now;
+        last.at = lines::append(&text[..length], out, now.at);
         written(last, out);
     }
 }
@@ -116,6 +122,7 @@ fn main() {
     let mut now = Progress {
         reader: Reader::fresh(MODE),
         bits: 0,
+        taken: 0,
         at: 0,
         open: true,
         more: true,

@@ -1,7 +1,7 @@
 -- `readout::ended` is safe and ends: the last line lies within its text.
 -- Assumes nothing.
 use borrow.Author.Needs.{needs}
-use Rattle.readout.proofs.Within.{prefix-length, told-within}
+use Rattle.lines.proofs.Laid.{told-within, prefix-length}
 use Rattle.readout.proofs.ended.Statement.{statement}
 use Rattle.readout.proofs.ended.Tie as tie
 
@@ -11,11 +11,11 @@ end-line-requires c κs = search needs
 array-share-prefix-text : tie.Need-array-share-prefix-text
 array-share-prefix-text c = told-within _ _ (c .end-line .ensures .0) (c .end-line .ensures .1)
 
-slice-aggregate-gathered : tie.Need-slice-aggregate-gathered
-slice-aggregate-gathered c = prefix-length _ _ (told-within _ _ (c .before .end-line .ensures .0) (c .before .end-line .ensures .1))
+slice-aggregate-append : tie.Need-slice-aggregate-append
+slice-aggregate-append c = prefix-length _ _ (told-within _ _ (c .before .end-line .ensures .0) (c .before .end-line .ensures .1))
 
-gathered-requires : tie.Need-gathered-requires
-gathered-requires c κs = search needs
+append-requires : tie.Need-append-requires
+append-requires c κs = search needs
 
 written-requires : tie.Need-written-requires
 written-requires c κs = search needs
@@ -35,8 +35,8 @@ ended-spec =
     (tie.spec
     end-line-requires
     array-share-prefix-text
-    slice-aggregate-gathered
-    gathered-requires
+    slice-aggregate-append
+    append-requires
     written-requires
     same-length
     returns

@@ -1,7 +1,8 @@
 -- `readout::piece_heard` is safe and ends: the bits that were sifted lie within the piece.
 -- Assumes nothing.
 use borrow.Author.Needs.{needs}
-use Rattle.readout.proofs.Within.{prefix-length, sifted-within}
+use Rattle.lines.proofs.Laid.{prefix-length}
+use Rattle.readout.proofs.Within.{sifted-within}
 use Rattle.readout.proofs.piece_heard.Statement.{statement}
 use Rattle.readout.proofs.piece_heard.Tie as tie
 

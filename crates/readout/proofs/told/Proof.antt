@@ -1,39 +1,21 @@
--- `readout::told` is safe and ends: the line lies within its text.
+-- `readout::told` is safe and ends: a block takes no more bits than it is lent.
 -- Assumes nothing.
 use borrow.Author.Needs.{needs}
-use Rattle.readout.proofs.Within.{prefix-length, told-within}
+use Rattle.readout.proofs.Within.{taken-few}
 use Rattle.readout.proofs.told.Statement.{statement}
 use Rattle.readout.proofs.told.Tie as tie
 
-wrapping-add-u64-requires : tie.Need-wrapping-add-u64-requires
-wrapping-add-u64-requires c κs = search needs
+tell-requires : tie.Need-tell-requires
+tell-requires c κs = search needs
 
-line-requires : tie.Need-line-requires
-line-requires c κs = search needs
-
-array-share-prefix-text : tie.Need-array-share-prefix-text
-array-share-prefix-text c = told-within _ _ (c .line .ensures .0) (c .line .ensures .1)
-
-slice-aggregate-gathered : tie.Need-slice-aggregate-gathered
-slice-aggregate-gathered c = prefix-length _ _ (told-within _ _ (c .before .line .ensures .0) (c .before .line .ensures .1))
-
-gathered-requires : tie.Need-gathered-requires
-gathered-requires c κs = search needs
+with-room-requires : tie.Need-with-room-requires
+with-room-requires c κs = search needs
 
 same-length : tie.Need-same-length
 same-length c = search needs
 
 returns : tie.Need-returns
-returns c = search needs
+returns c = rw (c .with-room .ensures) (taken-few _ _ _ _ _ (c .before .before .before .before .before .tell .ensures .0))
 
 pub told-spec : {M : Type 1} → statement M
-told-spec =
-    tie.close
-    (tie.spec
-    wrapping-add-u64-requires
-    line-requires
-    array-share-prefix-text
-    slice-aggregate-gathered
-    gathered-requires
-    same-length
-    returns)
+told-spec = tie.close (tie.spec tell-requires with-room-requires same-length returns)
