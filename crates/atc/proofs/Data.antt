@@ -11,7 +11,7 @@ use lib.Dec.{eqb}
 use lib.ListN.{length, take, drop}
 use borrow.Author.Tests.{eq-eqb, ne-eqb, eqb-true, eqb-false, not-false}
 use Rattle.refusals.proofs.Lowest.{neither}
-use Rattle.bits.specs.Bits.{value, toBits, ones, someAbove, AllBits}
+use Rattle.bits.specs.Bits.{value, toBits, onesIn, someAbove, AllBits}
 use Rattle.bits.proofs.Bit.{head-within, tail-within, within-cons}
 use Rattle.bits.proofs.Joined.{one-more-bit}
 use Rattle.bits.proofs.Count.{evened}
@@ -25,20 +25,20 @@ nine-of word =
     sym (nine-bits word) ∙ ap (toBits 9) low
 
 -- the count of ones in b0 to b8 is even exactly where b8 is the one that makes it so
-even-exactly : (word : ℕ) → ones (toBits 9 word) % 2 ≡ ones (toBits 9 (word % 256 + 256 * (word / 256 % 2))) % 2
-even-exactly word = ap (λ (bits : List ℕ). ones bits % 2) (nine-of word)
+even-exactly : (word : ℕ) → onesIn (toBits 9 word) % 2 ≡ onesIn (toBits 9 (word % 256 + 256 * (word / 256 % 2))) % 2
+even-exactly word = ap (λ (bits : List ℕ). onesIn bits % 2) (nine-of word)
 
 module _ (word : ℕ) where
-  b8-made : word / 256 % 2 ≡ evenBit (word % 256) → ones (toBits 9 word) % 2 ≡ 0
+  b8-made : word / 256 % 2 ≡ evenBit (word % 256) → onesIn (toBits 9 word) % 2 ≡ 0
   b8-made e =
       even-exactly word
-      ∙ ap (λ (bits : List ℕ). ones bits % 2) (one-more-bit 8 (word % 256) (word / 256 % 2) (omega arith) (omega arith))
+      ∙ ap (λ (bits : List ℕ). onesIn bits % 2) (one-more-bit 8 (word % 256) (word / 256 % 2) (omega arith) (omega arith))
       ∙ evened (toBits 8 (word % 256)) (word / 256 % 2) (omega arith) .1 e
 
-  b8-found : ones (toBits 9 word) % 2 ≡ 0 → word / 256 % 2 ≡ evenBit (word % 256)
+  b8-found : onesIn (toBits 9 word) % 2 ≡ 0 → word / 256 % 2 ≡ evenBit (word % 256)
   b8-found even =
       evened (toBits 8 (word % 256)) (word / 256 % 2) (omega arith) .0
-      (ap (λ (bits : List ℕ). ones bits % 2) (sym (one-more-bit 8 (word % 256) (word / 256 % 2) (omega arith) (omega arith)))
+      (ap (λ (bits : List ℕ). onesIn bits % 2) (sym (one-more-bit 8 (word % 256) (word / 256 % 2) (omega arith) (omega arith)))
       ∙ sym (even-exactly word) ∙ even)
 
 -- nine bits and the opposite of b8, by their parts
@@ -81,12 +81,12 @@ pub record Made (nibble bit word : ℕ) : Type 0 where
 made-of : (nibble bit b8 word : ℕ) → nibble < 16 → bit < 2 → b8 < 2 → b8 ≡ evenBit (8 * bit + 16 * nibble) → Parts (8 * bit + 16 * nibble) b8 word → Made nibble bit word
 made-of nibble bit b8 word n b e is p =
     let apart : word / 512 % 2 ≡ word / 256 % 2 → ⊥ = λ same. omega (arith, p .eighth, p .ninth) in
-    let count : ones (toBits 9 word) % 2 ≡ 0 = b8-made word (p .eighth ∙ is ∙ ap (λ (byte : ℕ). evenBit byte) (sym (p .low))) in
+    let count : onesIn (toBits 9 word) % 2 ≡ 0 = b8-made word (p .eighth ∙ is ∙ ap (λ (byte : ℕ). evenBit byte) (sym (p .low))) in
     record {
       small = omega (arith, p .ninth);
       nibble-again = omega (arith, p .low);
       bit-again = omega (arith, p .low);
-      right = rw (eq-eqb (ones (toBits 9 word) % 2) 0 count) (ne-eqb (word / 512 % 2) (word / 256 % 2) apart);
+      right = rw (eq-eqb (onesIn (toBits 9 word) % 2) 0 count) (ne-eqb (word / 512 % 2) (word / 256 % 2) apart);
       low-clear = ap not (eq-eqb (word % 8) 0 (omega (arith, p .low)));
     }
 
@@ -100,8 +100,8 @@ made nibble bit n b =
 pub written-again : (word : ℕ) → word ≤ 1023 → wrongWord word ≡ false → lowSet word ≡ false → dataWord (nibbleIn word) (bitIn word) ≡ word
 unfolding dataWord
 written-again word small right low =
-    let tests = neither (not (eqb (ones (toBits 9 word) % 2) 0)) (eqb (word / 512 % 2) (word / 256 % 2)) right in
-    let even : ones (toBits 9 word) % 2 ≡ 0 = eqb-true _ 0 (not-false _ (tests .0)) in
+    let tests = neither (not (eqb (onesIn (toBits 9 word) % 2) 0)) (eqb (word / 512 % 2) (word / 256 % 2)) right in
+    let even : onesIn (toBits 9 word) % 2 ≡ 0 = eqb-true _ 0 (not-false _ (tests .0)) in
     let clear : word % 8 ≡ 0 = eqb-true _ 0 (not-false _ low) in
     let byte : 8 * bitIn word + 16 * nibbleIn word ≡ word % 256 = omega arith in
     let b8 = b8-found word even in

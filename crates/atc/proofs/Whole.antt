@@ -1,8 +1,8 @@
 -- The 23 words: what is written is not refused and reads as it was written, and what is not refused is what is written for what it holds.
 -- Assumes nothing.
-use Prim.Native.Nat.{ℕ, zero, suc, _%_, _^_, _<_, _≤_}
+use Prim.Native.Nat.{ℕ, _%_, _^_, _<_, _≤_}
 use mathlib.Core.Path.{_≡_, refl, sym, ap, ap₂, _∙_}
-use mathlib.Core.Bool.{Bool, true, false, not, _&&_}
+use mathlib.Core.Bool.{true, false, not}
 use mathlib.Core.List.{List, [], _∷_, _++_, append-assoc, map, map-append}
 use native.Mathlib.Omega.{arith}
 use lib.Dec.{ltb, eqb}
@@ -12,32 +12,15 @@ use borrow.Author.Tests.{eq-eqb, eqb-true, not-false}
 use Rattle.refusals.specs.Answer.{Clear}
 use Rattle.refusals.proofs.Lowest.{neither}
 use Rattle.bits.specs.Bits.{toBits, someAbove, AllBits}
-use Rattle.bits.proofs.Bit.{bits-of-number, length-toBits, within-append, head-within, tail-within, within-cons}
+use Rattle.bits.proofs.Bit.{bits-of-number, length-toBits, within-append, within-cons, within-drop, within-take}
 use Rattle.bits.proofs.Inverse.{value-toBits, toBits-value}
-use Rattle.runs.specs.Run.{same}
+use Rattle.runs.proofs.Same.{same-itself, same-elements}
 use Rattle.atc.specs.Words.{withOpposite, wrongWord, someWord, dataWords, nibbleIn, bitIn, infoIn, byteIn, sum9}
 use Rattle.atc.specs.Packet.{header, isHeaded, checksumOf, carriedOf, frontOf, packetWith, dataIn, typeIn, secondIn}
 use Rattle.atc.specs.Calls.{formRefusals}
 use Rattle.atc.proofs.Pieces.{length-dataWords, length-carried, length-front, length-packet, checksum-of-front}
 use Rattle.atc.proofs.Turns.{gathered-below}
 use Rattle.atc.proofs.Data.{AllMade, all-made, all-again, byte-value, carried-all-bits, take-dataWords, drop-dataWords, shifted}
-
--- the same elements, and the elements of a list are its own
-same-elements : (xs ys : List ℕ) → same xs ys ≡ true → xs ≡ ys
-unfolding same
-same-elements [] [] e = refl
-same-elements [] (y ∷ ys) e = absurd (let z : _≡_ {A = ℕ} 0 1 = cc in omega arith)
-same-elements (x ∷ xs) [] e = absurd (let z : _≡_ {A = ℕ} 0 1 = cc in omega arith)
-same-elements (x ∷ xs) (y ∷ ys) e = let b = both (eqb x y) (same xs ys) e in ap₂ (λ (z : ℕ) (zs : List ℕ). z ∷ zs) (eqb-true x y (b .0)) (same-elements xs ys (b .1))
-  where
-    both : (s t : Bool) → (s && t) ≡ true → (s ≡ true) × (t ≡ true)
-    both true t h = (refl, h)
-    both false t h = absurd (let z : _≡_ {A = ℕ} 0 1 = cc in omega arith)
-
-same-itself : (xs : List ℕ) → same xs xs ≡ true
-unfolding same
-same-itself [] = refl
-same-itself (x ∷ xs) = rw (eq-eqb x x refl) (same-itself xs)
 
 -- nine bits and the opposite of b8 are ten bits
 ten-bits : (n : ℕ) → withOpposite (n % 512) ≤ 1023
@@ -49,19 +32,6 @@ ten-bits n = let low : n % 512 < 512 = omega arith in ten (n % 512) low
 checksum-small : (words : List ℕ) → checksumOf words ≤ 1023
 unfolding checksumOf
 checksum-small words = ten-bits (sum9 (take 19 (drop 3 words)))
-
--- elements within a limit stay so in a part
-drop-within : (limit n : ℕ) (words : List ℕ) → someAbove limit words ≡ false → someAbove limit (drop n words) ≡ false
-drop-within limit zero words e = e
-drop-within limit (suc n) [] e = e
-drop-within limit (suc n) (word ∷ words) e = drop-within limit n words (tail-within limit word words e)
-
-take-within : (limit n : ℕ) (words : List ℕ) → someAbove limit words ≡ false → someAbove limit (take n words) ≡ false
-unfolding someAbove
-take-within limit zero words e = refl
-take-within limit (suc n) [] e = e
-take-within limit (suc n) (word ∷ words) e =
-    within-cons limit word (take n words) (head-within limit word words e) (take-within limit n words (tail-within limit word words e))
 
 header-small : someAbove 1023 header ≡ false
 unfolding someAbove header
@@ -204,7 +174,7 @@ module _ (mode : ℕ) (words : List ℕ) (clear : Clear (formRefusals mode words
   front-again : frontOf (infoIn parts) (typeIn words) (secondIn words) ≡ header ++ parts
   unfolding frontOf
   front-again =
-      let within = take-within 1023 16 (drop 6 words) (drop-within 1023 6 words (clear .1 .1 .0)) in
+      let within = within-take 1023 16 (drop 6 words) (within-drop 1023 6 words (clear .1 .1 .0)) in
       rw carried-again (ap (λ (l : List ℕ). header ++ l) (all-again parts within (five .0) (clear .1 .1 .1 .1 .1 .0)))
 
   pub packet-again : packetWith (infoIn parts) (typeIn words) (secondIn words) ≡ words

@@ -18,7 +18,7 @@ isHeaded words = same (take 6 words) header
 unfoldable pub checksumOf : List ℕ → ℕ
 checksumOf words = withOpposite (sum9 (take 19 (drop 3 words)) % 512)
 
--- "Words 1 to 8 carry the payload type in b3, low bit first. Words 9 to 16 carry a second byte so"
+-- "Words 1 to 8 carry the payload type in b3, low bit first .. Words 9 to 16 carry a second byte so"
 abbrev pub carriedOf : ℕ → ℕ → List ℕ
 carriedOf type second = toBits 8 type ++ toBits 8 second
 

@@ -4,7 +4,7 @@ use Prim.Native.Nat.{ℕ, _+_, _-_, _*_, _/_, _%_}
 use mathlib.Core.Bool.{Bool, false, not, _||_}
 use mathlib.Core.List.{List, [], _∷_}
 use lib.Dec.{eqb}
-use Rattle.bits.specs.Bits.{toBits, ones}
+use Rattle.bits.specs.Bits.{toBits, onesIn}
 
 -- "b9 is its opposite": nine bits, and in b9 the opposite of b8
 abbrev pub withOpposite : ℕ → ℕ
@@ -12,7 +12,7 @@ withOpposite nine = nine + 512 * (1 - nine / 256)
 
 -- "b8 makes the count of ones in b0 to b8 even": b8 for the eight bits below it
 abbrev pub evenBit : ℕ → ℕ
-evenBit byte = ones (toBits 8 byte) % 2
+evenBit byte = onesIn (toBits 8 byte) % 2
 
 -- a data word: "information bits 4(k-1) to 4(k-1)+3 in b4 to b7. Its b0 to b2 are zero", and one bit in b3
 unfoldable pub dataWord : ℕ → ℕ → ℕ
@@ -20,7 +20,7 @@ dataWord nibble bit = let byte = 8 * bit + 16 * nibble in withOpposite (byte + 2
 
 -- "b8 or b9 of a data word": the count of ones in b0 to b8 is not even, or b9 is not the opposite of b8
 abbrev pub wrongWord : ℕ → Bool
-wrongWord word = not (eqb (ones (toBits 9 word) % 2) 0) || eqb (word / 512 % 2) (word / 256 % 2)
+wrongWord word = not (eqb (onesIn (toBits 9 word) % 2) 0) || eqb (word / 512 % 2) (word / 256 % 2)
 
 -- "b0 to b2 of a data word not zero"
 abbrev pub lowSet : ℕ → Bool

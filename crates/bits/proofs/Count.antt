@@ -11,12 +11,12 @@ use lib.Arith.{lt-one}
 use lib.Dec.{eqb}
 use lib.ListN.{length}
 use lib.Count.{ones as counted, ones-step}
-use Rattle.bits.specs.Bits.{toBits, howMany, ones, zeros, AllBits}
+use Rattle.bits.specs.Bits.{toBits, howMany, onesIn, zerosIn, AllBits}
 use Rattle.bits.proofs.Bit.{head-within, tail-within, bits-of-number, length-toBits}
 use Rattle.bits.proofs.Inverse.{half-below}
 
 -- a bit counts for itself among the ones, and for what it lacks of one among the zeros
-one-counts : (bit : ℕ) → bit ≤ 1 → cond (eqb bit 1) 1 0 ≡ bit
+pub one-counts : (bit : ℕ) → bit ≤ 1 → cond (eqb bit 1) 1 0 ≡ bit
 one-counts zero h = refl
 one-counts (suc zero) h = refl
 one-counts (suc (suc n)) h = absurd (not-suc-le-zero (le-of-suc-le-suc h))
@@ -27,14 +27,14 @@ zero-counts (suc zero) h = refl
 zero-counts (suc (suc n)) h = absurd (not-suc-le-zero (le-of-suc-le-suc h))
 
 -- `count_ones` of a number is the number of ones of its bit list
-pub count-ones : (width n : ℕ) → n < 2 ^ width → counted n ≡ ones (toBits width n)
+pub count-ones : (width n : ℕ) → n < 2 ^ width → counted n ≡ onesIn (toBits width n)
 unfolding toBits howMany counted
 count-ones zero n h = ap counted (lt-one h)
 count-ones (suc width) n h =
     rw (ones-step n, count-ones width (n / 2) (half-below width n h), one-counts (n % 2) (omega arith))
 
 -- each bit is a one or a zero
-pub ones-and-zeros : (bits : List ℕ) → AllBits bits → ones bits + zeros bits ≡ length bits
+pub ones-and-zeros : (bits : List ℕ) → AllBits bits → onesIn bits + zerosIn bits ≡ length bits
 unfolding howMany
 ones-and-zeros [] all = refl
 ones-and-zeros (bit ∷ bits) all =
@@ -43,7 +43,7 @@ ones-and-zeros (bit ∷ bits) all =
     rw (one-counts bit small) (omega (arith, zero-counts bit small))
 
 -- so the zeros of a bit list are what `count_ones` leaves of its width
-pub count-zeros : (width n : ℕ) → n < 2 ^ width → counted n + zeros (toBits width n) ≡ width
+pub count-zeros : (width n : ℕ) → n < 2 ^ width → counted n + zerosIn (toBits width n) ≡ width
 count-zeros width n h =
     rw (count-ones width n h) (ones-and-zeros (toBits width n) (bits-of-number width n) ∙ length-toBits width n)
 
@@ -54,12 +54,12 @@ howMany-append given [] ys = sym (zero-add (howMany given ys))
 howMany-append given (x ∷ xs) ys = rw (howMany-append given xs ys) (omega arith)
 
 -- one more bit adds itself to the ones
-pub ones-snoc : (bits : List ℕ) (bit : ℕ) → bit ≤ 1 → ones (bits ++ (bit ∷ [])) ≡ ones bits + bit
+pub ones-snoc : (bits : List ℕ) (bit : ℕ) → bit ≤ 1 → onesIn (bits ++ (bit ∷ [])) ≡ onesIn bits + bit
 unfolding howMany
 ones-snoc bits bit h = rw (howMany-append 1 bits (bit ∷ []), one-counts bit h) (omega arith)
 
 -- the one bit that makes the count of ones even is the parity of the others: "b8 makes the count of ones in b0 to b8 even"
-pub evened : (bits : List ℕ) (bit : ℕ) → bit ≤ 1 → ones (bits ++ (bit ∷ [])) % 2 ≡ 0 ↔ bit ≡ ones bits % 2
+pub evened : (bits : List ℕ) (bit : ℕ) → bit ≤ 1 → onesIn (bits ++ (bit ∷ [])) % 2 ≡ 0 ↔ bit ≡ onesIn bits % 2
 evened bits bit h =
     let all = ones-snoc bits bit h in
-    (λ (even : ones (bits ++ (bit ∷ [])) % 2 ≡ 0). omega arith, λ (same : bit ≡ ones bits % 2). omega arith)
+    (λ (even : onesIn (bits ++ (bit ∷ [])) % 2 ≡ 0). omega arith, λ (same : bit ≡ onesIn bits % 2). omega arith)

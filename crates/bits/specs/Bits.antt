@@ -30,8 +30,8 @@ unfoldable pub howMany : ℕ → List ℕ → ℕ
 howMany given [] = 0
 howMany given (element ∷ elements) = cond (eqb element given) 1 0 + howMany given elements
 
-abbrev pub ones : List ℕ → ℕ
-ones = howMany 1
+abbrev pub onesIn : List ℕ → ℕ
+onesIn = howMany 1
 
-abbrev pub zeros : List ℕ → ℕ
-zeros = howMany 0
+abbrev pub zerosIn : List ℕ → ℕ
+zerosIn = howMany 0

@@ -39,7 +39,7 @@ verdictOf refusals = answer Unsound refusals Sound
 abbrev pub refusalsOf : ℕ → Flag → Address → List Refusal
 refusalsOf mode drop a = addressRefusals mode (isYes drop) (outside (framesInSecond mode) a) (skipped a)
 
--- of two addresses: "one counting mode is named for both"
+-- of two addresses: "One counting mode is named for both"
 abbrev pub refusalsOfTwo : ℕ → Flag → Address → Address → List Refusal
 refusalsOfTwo mode drop a b =
     addressRefusals mode (isYes drop)

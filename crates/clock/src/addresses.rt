@@ -21,25 +21,26 @@ use crate::types::SecondFrame;
 use crate::types::Verdict;
 
 // The place of a number on a clock that skips nothing.
-fn place(drop: bool, number: u32) -> u32
-    requires { ⌜ number < 2592000 ⌝ }
-    ensures { λ r. ⌜ r ≡ placeAt drop number ⌝ }
+fn place(drop: bool, number: DayFrame) -> u32
+    requires { ⌜ number .0 < 2592000 ⌝ }
+    ensures { λ r. ⌜ r ≡ placeAt drop (number .0) ⌝ }
 {
+    let n = number.0;
     if !drop {
-        return number;
+        return n;
     }
-    let skipped = 18 * (number / 17982);
-    let rest = number % 17982;
+    let skipped = 18 * (n / 17982);
+    let rest = n % 17982;
     if rest < 2 {
-        return number + skipped;
+        return n + skipped;
     }
-    number + (skipped + 2 * ((rest - 2) / 1798))
+    n + (skipped + 2 * ((rest - 2) / 1798))
 }
 
 // The address of a number of the day.
-fn address_at(mode: u8, drop: bool, number: u32) -> Address
-    requires { ⌜ number < 2592000 ⌝ }
-    ensures { λ r. ⌜ r ≡ addressAt (framesInSecond mode) drop number ⌝ }
+fn address_at(mode: u8, drop: bool, number: DayFrame) -> Address
+    requires { ⌜ number .0 < 2592000 ⌝ }
+    ensures { λ r. ⌜ r ≡ addressAt (framesInSecond mode) drop (number .0) ⌝ }
 {
     let fps = frames_in_second(mode);
     let place = place(drop, number);
@@ -61,7 +62,6 @@ pub fn address_of(mode: u8, drop: Flag, number: DayFrame) -> Placed
     ensures { λ r. ⌜ r ≡ addressOf mode drop number ⌝ }
 {
     let dropped = is_yes(drop);
-    let n = number.0;
     let unknown = 2 < mode;
     let unused = (mode < 2) & dropped;
     if unknown {
@@ -70,10 +70,10 @@ pub fn address_of(mode: u8, drop: Flag, number: DayFrame) -> Placed
     if unused {
         return Placed::Refused(refusals::UNUSED_BIT_SET);
     }
-    if frames_in_day(mode, dropped) <= n {
+    if frames_in_day(mode, dropped) <= number.0 {
         return Placed::Refused(refusals::NUMBER_PAST_THE_DAY);
     }
-    Placed::At(address_at(mode, dropped, n))
+    Placed::At(address_at(mode, dropped, number))
 }
 
 pub fn address_from(
@@ -135,7 +135,7 @@ pub fn add(mode: u8, drop: Flag, address: Address, frames: i32) -> Placed
         Verdict::Sound => {
             let dropped = is_yes(drop);
             let day = frames_in_day(mode, dropped);
-            let number = sum(day, count(mode, dropped, address), frames);
+            let number = DayFrame(sum(day, count(mode, dropped, address).0, frames));
             Placed::At(address_at(mode, dropped, number))
         }
     }

@@ -4,10 +4,11 @@ ghost use Rattle.clock.specs.Modes.{framesInSecond};
 ghost use Rattle.clock.specs.Counting.{countOf};
 use crate::modes::frames_in_second;
 use crate::types::Address;
+use crate::types::DayFrame;
 
 // The frame number of an address: its place on a clock that skips nothing, less two for each minute begun but every tenth.
-pub fn count(mode: u8, drop: bool, a: Address) -> u32
-    ensures { λ r. ⌜ r ≡ countOf (framesInSecond mode) drop a ⌝ }
+pub fn count(mode: u8, drop: bool, a: Address) -> DayFrame
+    ensures { λ r. ⌜ r .0 ≡ countOf (framesInSecond mode) drop a ⌝ }
 {
     let fps = frames_in_second(mode);
     let hours = a.hours as u32;
@@ -17,7 +18,8 @@ pub fn count(mode: u8, drop: bool, a: Address) -> u32
     let begun = 60 * hours + minutes;
     let place = (60 * begun + seconds) * fps + frames;
     if drop {
-        return place - 2 * (begun - begun / 10);
+        let number = place - 2 * (begun - begun / 10);
+        return DayFrame(number);
     }
-    place
+    DayFrame(place)
 }

@@ -2,6 +2,7 @@
 // from a frame number of the day and from clock fields.
 ghost use mathlib.Core.Path.{_≡_};
 ghost use Rattle.clock.specs.declared.types.Flag.the-variants.{No, Yes};
+ghost use Rattle.clock.specs.Modes.{kindConstants};
 ghost use Rattle.clock.specs.Clock.{showing};
 ghost use Rattle.clock.specs.Calls.{addressOf, fieldsOf};
 use crate::addresses::address_from;
@@ -74,7 +75,7 @@ impl Frames30 {
 }
 
 impl Frames30Drop {
-    pub const IN_SECOND: u32 = Frames30::IN_SECOND;
+    pub const IN_SECOND: u32 = 30; // some seconds begin at 02, and each ends at 29
 
     pub const IN_DAY: u32 = 2_589_408;
 
@@ -89,4 +90,21 @@ impl Frames30Drop {
     {
         address_from(2, Flag::Yes, hours, minutes, seconds, frames)
     }
+}
+
+// The constants of 24, 25, 30 and 30 drop, frames in a second and then in a day: a definition can't name a constant of the code,
+// so this promise is what holds each of them.
+pub fn kind_constants() -> [u32; 8]
+    ensures { λ r. ⌜ r ≡ kindConstants ⌝ }
+{
+    [
+        Frames24::IN_SECOND,
+        Frames24::IN_DAY,
+        Frames25::IN_SECOND,
+        Frames25::IN_DAY,
+        Frames30::IN_SECOND,
+        Frames30::IN_DAY,
+        Frames30Drop::IN_SECOND,
+        Frames30Drop::IN_DAY,
+    ]
 }

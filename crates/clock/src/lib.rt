@@ -20,6 +20,7 @@ pub use kinds::Frames24;
 pub use kinds::Frames25;
 pub use kinds::Frames30;
 pub use kinds::Frames30Drop;
+pub use kinds::kind_constants;
 pub use modes::is_yes;
 pub use numbers::distance;
 pub use numbers::number_of;

@@ -10,7 +10,6 @@ use crate::modes::is_yes;
 use crate::modes::judge;
 use crate::modes::judge_two;
 use crate::types::Address;
-use crate::types::DayFrame;
 use crate::types::Flag;
 use crate::types::Numbered;
 use crate::types::Span;
@@ -22,7 +21,7 @@ pub fn number_of(mode: u8, drop: Flag, address: Address) -> Numbered
     let found = judge(mode, drop, address);
     match found {
         Verdict::Refused(number) => Numbered::Refused(number),
-        Verdict::Sound => Numbered::Number(DayFrame(count(mode, is_yes(drop), address))),
+        Verdict::Sound => Numbered::Number(count(mode, is_yes(drop), address)),
     }
 }
 
@@ -63,8 +62,9 @@ pub fn distance(mode: u8, drop: Flag, from: Address, to: Address) -> Span
         Verdict::Sound => {
             let dropped = is_yes(drop);
             let day = frames_in_day(mode, dropped);
-            let frames = between(day, count(mode, dropped, from), count(mode, dropped, to));
-            Span::Frames(frames)
+            let start = count(mode, dropped, from);
+            let end = count(mode, dropped, to);
+            Span::Frames(between(day, start.0, end.0))
         }
     }
 }

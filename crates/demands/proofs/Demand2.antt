@@ -1,5 +1,7 @@
--- Demand 2. "Frame numbers of a day and addresses match one to one, drop-frame or not; an address is turned away exactly when the clock, stepped
--- from midnight by the standard's rule, never shows it." And what is carried, read or written, matches one to one.
+-- Demand 2. "Words on the linear track, vertical interval lines and ancillary packets mean what ITU-R BT.1366-3 says, read or written, in the house
+-- choices of document 01. Frame numbers of a day and addresses match one to one, drop-frame or not; an address is turned away exactly when the clock,
+-- stepped from midnight by the standard's rule, never shows it."
+-- What the elements mean is in the definitions of the carriers; that what is carried, read or written, matches one to one is here.
 -- Assumes nothing.
 use Prim.Native.Nat.{ℕ, _+_, _<_, _≤_}
 use mathlib.Core.Path.{_≡_, refl}
@@ -126,8 +128,8 @@ ancillary-laws =
           (acceptable-exactly mode (c .«record») .1 (ok .0), ok .1) (ok .2);
     }
 
--- "Words on the linear track (LTC), vertical interval lines (VITC) and ancillary packets (ATC) .. read or written". A write that has room is done exactly
--- where the record is acceptable, and what else the carrier asks for holds. Shut out: a writer that refuses each record.
+-- "Words on the linear track, vertical interval lines and ancillary packets .. read or written". A write that has room is done exactly where the
+-- record is acceptable, and what else the carrier asks for holds. Shut out: a writer that refuses each record.
 pub linear-accepts : Accepting linear
 linear-accepts = accepting linear linear-laws
 

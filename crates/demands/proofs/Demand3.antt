@@ -1,6 +1,7 @@
--- Demand 3. "Take a reader in any state that feeding can bring a fresh one to. Feed it, end to end, code words that demand 2 accepts in its mode,
--- addresses in any order. Each is reported, as itself, at its 80th bit. After the fifth bit of the first word there is no other report and no
--- complaint."
+-- Demand 3. "Take a reader in any state that feeding can bring a fresh one to. From there feed it, unchanged and end to end, code words that
+-- demand 2 accepts in the reader's mode, their addresses in any order. Each word is reported, as itself, at its 80th bit. After the fifth bit of the
+-- first word the reader makes no report and no complaint anywhere else. Earlier leftovers may still complete a false word in those first five bits,
+-- and not later."
 -- Assumes nothing.
 use Prim.Native.Nat.{ℕ, _<_, _≤_}
 use mathlib.Core.Path.{_≡_, refl}
@@ -12,7 +13,7 @@ use Rattle.reader.specs.declared.types.Reader.{Reader}
 use Rattle.reader.specs.declared.types.Heard.{Heard}
 use Rattle.reader.specs.Reach.{fed, answers, Reached}
 use Rattle.reader.specs.Cuts.{Cut, inBlocks, AllOpen}
-use Rattle.reader.specs.Following.{CodeWord, endToEnd, eachAsItself, FollowsAfter, Follows}
+use Rattle.reader.specs.Following.{CodeWord, endToEnd, eachAsItself, settled, FollowsAfter, Follows}
 use Rattle.reader.proofs.CutAnywhere.{cut-to-the-end, comes-to-the-end}
 use Rattle.reader.proofs.Demand3.{words-clean, demand-3, demand-3-in-blocks}
 use Rattle.reader.proofs.Tight.{five-is-tight}
@@ -26,31 +27,35 @@ a-word-for-each mode r ok =
     let read = linear-reads mode r .1 ok in
     (record { bits = read .0; says = r; accepted = read .1 }, refl)
 
--- "Take a reader in any state that feeding can bring a fresh one to": reached by single steps over any elements, in a mode up to 2. "Feed it, end
--- to end, code words": one answer of `reader::step` for each bit. After five of them come 79 times nothing and then the word's own record, word
--- after word. Shut out, with the above: a reader that refuses each word, one that never answers, one that reports one fixed address.
+-- "Take a reader in any state that feeding can bring a fresh one to": reached by single steps over any elements, in a mode up to 2. "feed it,
+-- unchanged and end to end, code words": one answer of `reader::step` for each bit. But for the first five they are 79 times nothing and then the
+-- word's own record, word after word. Shut out, with the above: a reader that refuses each word, one that never answers, one that reports one fixed
+-- address.
 pub each-word-as-itself :
     (reader : Reader) → Reached reader → reader .mode ≤ 2 → (words : List (CodeWord (reader .mode)))
-    → drop 5 (answers reader (endToEnd words)) ≡ drop 5 (eachAsItself words)
+    → drop settled (answers reader (endToEnd words)) ≡ drop settled (eachAsItself words)
 each-word-as-itself = demand-3
 
--- The same of `reader::block`, in blocks cut anywhere, going on after each stop: with as many blocks as bits, each of which may take one, the run comes to
--- its end, with the same answers, and the reader is the one that single steps leave. Shut out: a block step that does all at once and later only nods.
+-- The same of `reader::block`, in blocks cut anywhere, going on after each stop: with as many blocks as bits, each of which may take one, the run
+-- comes to its end, with the answers of single steps, so each word as itself, and the reader is the one that single steps leave. Shut out: a block
+-- step that does all at once and later only nods.
 -- (The count of each block is `count-of-steps` in the crate `reader`.)
 pub each-word-in-blocks :
     (reader : Reader) → Reached reader → reader .mode ≤ 2 → (words : List (CodeWord (reader .mode))) (cuts : List Cut)
     → AllOpen cuts → length (endToEnd words) ≤ length cuts
     → (inBlocks reader cuts (endToEnd words) .left ≡ [])
-    × (drop 5 (inBlocks reader cuts (endToEnd words) .heard) ≡ drop 5 (eachAsItself words))
+    × (inBlocks reader cuts (endToEnd words) .heard ≡ answers reader (endToEnd words))
+    × (drop settled (inBlocks reader cuts (endToEnd words) .heard) ≡ drop settled (eachAsItself words))
     × (inBlocks reader cuts (endToEnd words) .reader ≡ fed reader (endToEnd words))
 each-word-in-blocks reader reached low words cuts taking enough =
     let known = le-ltb 2 (reader .mode) low in
     let clean = words-clean words in
     let ended = comes-to-the-end reader known reached cuts (endToEnd words) clean taking enough in
-    (ended, demand-3-in-blocks reader reached low words cuts ended, cut-to-the-end reader known reached cuts (endToEnd words) clean ended .1)
+    let same = cut-to-the-end reader known reached cuts (endToEnd words) clean ended in
+    (ended, same .0, demand-3-in-blocks reader reached low words cuts ended, same .1)
 
--- "After the fifth bit": after fewer it could not be demanded, since leftovers can make a word with the first five bits.
-pub not-before-the-fifth : (bits : ℕ) → bits < 5 → FollowsAfter bits answers → ⊥
+-- "Earlier leftovers may still complete a false word in those first five bits": after fewer bits it could not be demanded.
+pub not-before-the-fifth : (bits : ℕ) → bits < settled → FollowsAfter bits answers → ⊥
 not-before-the-fifth = five-is-tight
 
 -- Whatever an impostor gives for each report, be it nothing, a number or one fixed record, it does not follow.

@@ -1,4 +1,4 @@
--- "Bars to rehearse. Marked P: proved of the written definitions, as a single table under a single claim."
+-- The bars to rehearse: "Marked P: proved of the written definitions, as a single table under a single claim."
 -- Assumes nothing.
 use Prim.Native.Nat.{ℕ, zero, suc, _+_}
 use mathlib.Core.Path.{_≡_}

@@ -1,31 +1,33 @@
 -- Demand 2 of what carries a record, "read or written": what is written, what is read, and that the two match one to one. What the elements mean is in
--- the definitions of the carriers, to be held beside the standard.
+-- the definitions of the carriers, to be held beside the standard. And demand 1 of a write "that is turned away".
 -- Assumes nothing.
 use Prim.Native.Nat.{ℕ, _+_, _<_, _≤_}
 use mathlib.Core.Path.{_≡_}
 use mathlib.Core.List.{List}
-use mathlib.Core.Logic.{_↔_}
+use mathlib.Core.Logic.{_↔_, _⊎_}
 use lib.ListN.{length}
 use Rattle.runs.specs.Run.{placed}
 use Rattle.clock.specs.declared.types.Flag.the-variants.{No}
 use Rattle.record.specs.declared.types.Record.{Record}
 use Rattle.record.specs.declared.types.Unpacked.the-variants.{Holds}
 use Rattle.ltc.specs.Calls as ltc
-use Rattle.ltc.specs.declared.writing.Written.the-variants.{Done as LtcDone}
+use Rattle.ltc.specs.declared.writing.Written.the-variants.{Done as LtcDone, Refused as LtcRefused}
 use Rattle.vitc.specs.Calls as vitc
-use Rattle.vitc.specs.declared.writing.Written.the-variants.{Done as VitcDone}
+use Rattle.vitc.specs.declared.writing.Written.the-variants.{Done as VitcDone, Refused as VitcRefused}
 use Rattle.atc.specs.declared.types.Contents.{Contents}
 use Rattle.atc.specs.Calls as atc
 use Rattle.atc.specs.declared.types.Packet.the-variants.{Holds as Carries}
-use Rattle.atc.specs.declared.types.Written.the-variants.{Done as AtcDone}
+use Rattle.atc.specs.declared.types.Written.the-variants.{Done as AtcDone, Refused as AtcRefused}
 use Rattle.demands.specs.Records.{Acceptable}
 
--- What a carrier takes, by mode, and what its calls promise: that a write of a content from a start in a lent run is done; the run as the write leaves
--- it; and that a read of a run of elements gives a content.
+-- What the types of a carrier's calls ensure of a content; what it takes, by mode; and what its calls promise: that a write of a content from a
+-- start in a lent run is done; that it is refused with a number; the run as the write leaves it; and that a read of some elements gives a content.
 pub record Carrier (Content : Type 0) : Type 1 where
   pub size : ℕ
+  pub Given : Content → Type 0
   pub Accepts : ℕ → Content → Type 0
   pub Writes : ℕ → Content → ℕ → List ℕ → Type 0
+  pub Refuses : ℕ → Content → ℕ → List ℕ → ℕ → Type 0
   pub leaves : ℕ → Content → ℕ → List ℕ → List ℕ
   pub Reads : ℕ → List ℕ → Content → Type 0
 
@@ -34,8 +36,10 @@ abbrev pub linear : Carrier Record
 linear =
     record {
       size = 80;
+      Given = λ r. Unit {0};
       Accepts = λ mode r. Acceptable mode r × (r .mark ≡ No);
       Writes = λ mode r start run. ltc.writtenOf mode r start run ≡ LtcDone;
+      Refuses = λ mode r start run number. ltc.writtenOf mode r start run ≡ LtcRefused number;
       leaves = ltc.runOf;
       Reads = λ mode word r. ltc.readOf mode word ≡ Holds r;
     }
@@ -45,8 +49,10 @@ abbrev pub interval : Carrier Record
 interval =
     record {
       size = 90;
+      Given = λ r. Unit {0};
       Accepts = λ mode r. Acceptable mode r;
       Writes = λ mode r start run. vitc.writtenOf mode r start run ≡ VitcDone;
+      Refuses = λ mode r start run number. vitc.writtenOf mode r start run ≡ VitcRefused number;
       leaves = vitc.runOf;
       Reads = λ mode line r. vitc.readOf mode line ≡ Holds r;
     }
@@ -56,13 +62,28 @@ abbrev pub ancillary : Carrier Contents
 ancillary =
     record {
       size = 23;
+      Given = λ c. c .second < 256;
       Accepts = λ mode c. Acceptable mode (c .«record») × (c .«payload_type» ≤ 2) × (c .second < 256);
       Writes = λ mode c start run. (c .second < 256) × (atc.writtenOf mode (c .«record») (c .«payload_type») start run ≡ AtcDone);
+      Refuses = λ mode c start run number. atc.writtenOf mode (c .«record») (c .«payload_type») start run ≡ AtcRefused number;
       leaves = λ mode c. atc.runOf mode (c .«record») (c .«payload_type») (c .second);
       Reads = λ mode words c. atc.readOf mode words ≡ Carries c;
     }
 
 module _ {Content : Type 0} (carrier : Carrier Content) where
+  -- Every write is done, or it is refused with a number, and never both.
+  abbrev pub DoneOrRefused : Type 0
+  DoneOrRefused =
+      (mode : ℕ) (content : Content) (start : ℕ) (run : List ℕ) → carrier .Given content
+      → (carrier .Writes mode content start run ⊎ ((number : ℕ) × carrier .Refuses mode content start run number))
+      × ((number : ℕ) → carrier .Writes mode content start run → carrier .Refuses mode content start run number → ⊥)
+
+  -- "A write that is turned away changes no element lent to it": refused with whatever number, it leaves the run that it was lent.
+  abbrev pub Unchanged : Type 0
+  Unchanged =
+      (mode : ℕ) (content : Content) (start : ℕ) (run : List ℕ) (number : ℕ) → carrier .Refuses mode content start run number
+      → carrier .leaves mode content start run ≡ run
+
   -- A write that has room is done exactly where the carrier takes the content.
   abbrev pub Accepting : Type 0
   Accepting =

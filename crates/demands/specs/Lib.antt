@@ -1,6 +1,6 @@
 -- Modes     the four counting modes
 -- Records   the records that can be carried
--- Carriers  what it is for words and records to match one to one
+-- Carriers  what it is for a write to be done or refused, and for words and records to match one to one
 -- Bars      the bars that document 01 marks P, one table
 pub mod Modes
 pub mod Records

@@ -2,10 +2,11 @@
 //
 // specs/Modes        the four counting modes
 // specs/Records      the records that can be carried
-// specs/Carriers     what it is for words and records to match one to one
+// specs/Carriers     what it is for a write to be done or refused, and for words and records to match one to one
 // specs/Bars         the bars that document 01 marks P, one table
+// proofs/Demand1     a write is done or refused, and one that is refused changes no element
 // proofs/Demand2     frame numbers and addresses; words, lines and packets, read or written
 // proofs/Demand3     each code word is reported, as itself, at its 80th bit
 // proofs/Rehearsed   the bars, under one claim
 //
-// Demand 1 has no theorem of its own: docs/PROMISES.md says why.
+// What else demand 1 asks for is in the promises of the calls themselves: docs/PROMISES.md says where.

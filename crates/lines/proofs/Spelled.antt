@@ -1,4 +1,4 @@
--- A number's decimal digits, the fewest that hold it, are its decimal.
+-- A number's decimal digits, the fewest that hold it, are its decimal; and how long a line is at most.
 -- Assumes nothing.
 use Prim.Native.Nat.{ℕ, zero, suc, _-_, _*_, _/_, _%_, _^_, _≤_, _<_}
 use mathlib.Core.Path.{_≡_, refl}
@@ -9,12 +9,14 @@ use lib.ListN.{length, length-append}
 use borrow.Author.Tests.{lt-ltb, le-ltb, ltb-true, ltb-false}
 use native.Mathlib.Nat.{pow-succ', one-le-pow, pow-le-pow-right}
 use Rattle.io.specs.Digits.{digits, Fewest}
-use Rattle.lines.specs.Lines.{decimalWithin}
+use Rattle.reader.specs.declared.types.Heard.{Heard}
+use Rattle.reader.specs.declared.types.Heard.the-variants.{Nothing, Accepted, Refused}
+use Rattle.lines.specs.Lines.{decimalWithin, addressText, groupsText, acceptedText, refusedText, lineOf}
 
 ten : (k : ℕ) → 10 ^ suc k ≡ 10 * 10 ^ k
 ten k = pow-succ' 10 k
 
--- "no zeros in front": the fewest digits that hold the number, at least one
+-- with no zeros in front: the fewest digits that hold the number, at least one
 pub spelled : (k m n : ℕ) → k ≤ m → Fewest 10 1 n k → digits 10 k n ≡ decimalWithin m n
 unfolding decimalWithin
 spelled zero m n h f = absurd (omega (arith, f .0))
@@ -63,3 +65,10 @@ at-most (suc m) n = go (ltb n 10) refl (at-most m (n / 10))
     go : (t : Bool) → ltb n 10 ≡ t → length (decimalWithin m (n / 10)) ≤ m → length (decimalWithin (suc m) n) ≤ suc m
     go true t h = rw t (omega arith)
     go false t h = rw (t, length-append) (omega arith)
+
+-- every line has room in 64 places
+pub line-short : (bits : ℕ) (heard : Heard) → length (lineOf bits heard) ≤ 64
+unfolding lineOf acceptedText refusedText addressText groupsText
+line-short bits Nothing = omega arith
+line-short bits (Accepted r) = simp length-append (omega (arith, at-most 20 bits))
+line-short bits (Refused number) = simp length-append (omega (arith, at-most 20 bits, at-most 20 number))

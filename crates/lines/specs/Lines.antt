@@ -10,7 +10,16 @@ use Rattle.clock.specs.Modes.{isYes}
 use Rattle.record.specs.declared.types.Record.{Record}
 use Rattle.reader.specs.declared.types.Heard.{Heard}
 use Rattle.reader.specs.declared.types.Heard.the-variants.{Nothing, Accepted, Refused}
-use Rattle.lines.specs.Characters.{lineFeed, space, zeroDigit}
+
+-- the characters by their numbers
+abbrev pub lineFeed : ℕ
+lineFeed = 10
+
+abbrev pub space : ℕ
+space = 32
+
+abbrev pub zeroDigit : ℕ
+zeroDigit = 48
 
 abbrev pub colon : ℕ
 colon = 58

@@ -4,18 +4,18 @@ ghost use mathlib.Core.List.{[], _∷_, _++_};
 ghost use Prim.Native.Nat.{_+_, _≤_};
 ghost use lib.ListN.{length};
 ghost use Rattle.runs.specs.Run.{placed};
-ghost use Rattle.lines.specs.Characters.{space, lineFeed};
-ghost use Rattle.lines.specs.Lines.{colon, twoDigits, beforeFrames, addressText, groupsText};
+ghost use Rattle.lines.specs.Lines.{space, lineFeed, colon, twoDigits, beforeFrames, addressText, groupsText};
 ghost use Rattle.lines.specs.Lines.{acceptedText, refusedText, lineOf, endLineOf};
 use crate::digits::append_decimal;
 use crate::digits::hex_digit;
 use crate::laying::append;
 use clock::Flag;
+use clock::SecondFrame;
 use reader::Heard;
 use record::Record;
 
-// The longest line has 42 characters: 20 digits of bits so far, 11 of an address, 8 of groups, two spaces and a line feed.
-pub const ROOM: usize = 48;
+// Room for any line. The longest has 42 characters: 20 digits of bits so far, 11 of an address, 8 of groups, two spaces and a line feed.
+pub const ROOM: usize = 64;
 
 // "colon before the frames when drop is 0"
 fn before_frames(drop: Flag) -> u8
@@ -27,8 +27,8 @@ fn before_frames(drop: Flag) -> u8
     }
 }
 
-fn clock_text(hours: u8, minutes: u8, seconds: u8, mark: u8, frames: u8) -> [u8; 12]
-    ensures { λ r. ⌜ r ≡ space ∷ (twoDigits hours ++ (colon ∷ twoDigits minutes) ++ (colon ∷ twoDigits seconds) ++ (mark ∷ twoDigits frames)) ⌝ }
+fn clock_text(hours: u8, minutes: u8, seconds: u8, mark: u8, frames: SecondFrame) -> [u8; 12]
+    ensures { λ r. ⌜ r ≡ space ∷ (twoDigits hours ++ (colon ∷ twoDigits minutes) ++ (colon ∷ twoDigits seconds) ++ (mark ∷ twoDigits (frames .0))) ⌝ }
 {
     [
         b' ',
@@ -41,8 +41,8 @@ fn clock_text(hours: u8, minutes: u8, seconds: u8, mark: u8, frames: u8) -> [u8;
         b'0' + seconds / 10 % 10,
         b'0' + seconds % 10,
         mark,
-        b'0' + frames / 10 % 10,
-        b'0' + frames % 10,
+        b'0' + frames.0 / 10 % 10,
+        b'0' + frames.0 % 10,
     ]
 }
 
@@ -51,7 +51,7 @@ fn address_text(r: Record) -> [u8; 12]
 {
     let frames = r.frames;
     let drop = r.drop;
-    clock_text(r.hours, r.minutes, r.seconds, before_frames(drop), frames.0)
+    clock_text(r.hours, r.minutes, r.seconds, before_frames(drop), frames)
 }
 
 fn groups_text(r: Record) -> [u8; 10]

@@ -4,22 +4,33 @@ use mathlib.Core.Path.{_≡_, ap, sym, _∙_}
 use mathlib.Core.Bool.{true, false, or-true}
 use Prim.Native.Nat.{ℕ}
 use mathlib.Core.List.{List}
+use mathlib.Core.Logic.{_⊎_, inl, inr}
 use native.Mathlib.Omega.{arith}
 use lib.Dec.{ltb}
 use lib.ListN.{length, take, drop}
 use lib.Seq.{take-all}
+use denote.Enum.Declared.{tagOf}
 use borrow.Author.Tests.{eq-eqb, ne-eqb}
 use Rattle.bits.specs.Bits.{value, someAbove}
 use Rattle.runs.specs.declared.carry.Gathered.{Gathered}
-use Rattle.runs.specs.declared.carry.Gathered.the-variants.{Number, Refused as Ungathered}
+use Rattle.runs.specs.declared.carry.Gathered.the-variants.{Number}
 use Rattle.runs.specs.Gather.{gatheredOf}
 use Rattle.runs.specs.Run.{same}
+use Rattle.runs.proofs.carry.Gathered.{the-type}
 use Rattle.runs.proofs.Same.{same-itself, gathered-is, not-gathered}
 use Rattle.record.specs.declared.types.Unpacked.{Unpacked}
 use Rattle.record.specs.declared.types.Unpacked.the-variants.{Refused as Unheld}
 use Rattle.ltc.specs.Word.{syncWord, infoIn, wordWith, oddZeros}
 use Rattle.ltc.specs.Calls.{readOf, heardOf}
 use Rattle.ltc.proofs.Heard.{low-length, high-length, above-in-parts, sync-by-number, other-sync, word-is}
+
+-- an answer that is not the first of its cases, as the `else` of a `let` is told it: by the place of the case
+abbrev Another : Gathered → Type 0
+Another answer = (tagOf the-type answer ≡ 1) ⊎ (tagOf the-type answer ≡ 2)
+
+no-number : (answer : Gathered) → Another answer → (n : ℕ) → answer ≡ Number n → ⊥
+no-number answer (inl e) n is = let first = ap (tagOf the-type) is in omega arith
+no-number answer (inr e) n is = let first = ap (tagOf the-type) is in omega arith
 
 module _ (mode : ℕ) (word : List ℕ) where
   pub wrong-size : (length word ≡ 80 → ⊥) → Unheld 1 ≡ readOf mode word
@@ -36,16 +47,16 @@ module _ (mode : ℕ) (word : List ℕ) where
       high-part : take 16 (drop 64 word) ≡ drop 64 word
       high-part = take-all 16 (drop 64 word) (omega (arith, high-length word long))
 
-      pub no-bit-low : (n : ℕ) → low ≡ Ungathered n → Unheld 3 ≡ readOf mode word
+      pub no-bit-low : Another low → Unheld 3 ≡ readOf mode word
       unfolding readOf
-      no-bit-low n e =
-          let above = not-gathered (take 64 word) n (omega (arith, low-length word long)) (sym first ∙ e) in
+      no-bit-low e =
+          let above = not-gathered (take 64 word) (omega (arith, low-length word long)) (λ n is. no-number low e n (first ∙ is)) in
           rw (eq-eqb (length word) 80 long, known, above-in-parts word long, above)
 
-      pub no-bit-high : (n : ℕ) → high ≡ Ungathered n → Unheld 3 ≡ readOf mode word
+      pub no-bit-high : Another high → Unheld 3 ≡ readOf mode word
       unfolding readOf
-      no-bit-high n e =
-          let above = not-gathered (drop 64 word) n (omega (arith, high-length word long)) (ap gatheredOf (sym high-part) ∙ sym last ∙ e) in
+      no-bit-high e =
+          let above = not-gathered (drop 64 word) (omega (arith, high-length word long)) (λ n is. no-number high e n (last ∙ ap gatheredOf high-part ∙ is)) in
           rw (eq-eqb (length word) 80 long, known, above-in-parts word long, above, or-true (someAbove 1 (take 64 word)))
 
       module _ (info sync : ℕ) (is-low : low ≡ Number info) (is-high : high ≡ Number sync) where

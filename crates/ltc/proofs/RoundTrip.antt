@@ -30,7 +30,7 @@ use Rattle.record.specs.Record.{infoOf, recordOf, addressIn, digitAbove9, marke
 use Rattle.record.specs.declared.types.Packed.the-variants.{Bits, Refused as Unpackable}
 use Rattle.record.specs.Calls.{writeRefusals, withMode, packedOf, unpackedOf}
 use Rattle.record.proofs.Accepted.{writable}
-use Rattle.record.proofs.RoundTrip.{info-below, marked-writable, one-to-one, written-of-read as info-of-read}
+use Rattle.record.proofs.RoundTrip.{info-below, marked-writable, no-record, one-to-one, written-of-read as info-of-read}
 use Rattle.ltc.specs.Word.{syncWord, wordWith, infoIn, oddZeros, correctedOf, wordOf}
 use Rattle.ltc.specs.Calls.{readRefusals, readOf, heardOf, writtenRows, writtenOf, runOf}
 use Rattle.ltc.specs.declared.writing.Written.the-variants.{Done, Refused as Unwritten}
@@ -129,11 +129,8 @@ module _ (mode : ℕ) (word : List ℕ) (clear : Clear (readRefusals mode word))
 pub read-clear : (mode : ℕ) (r : Record) (word : List ℕ) → readOf mode word ≡ Holds r → Clear (readRefusals mode word) × (marked No (recordOf mode (infoIn word)) ≡ r)
 unfolding readOf recordIn
 read-clear mode r word e =
-    let taken = accepted-as Unheld (Holds (marked No (recordOf mode (infoIn word)))) (readRefusals mode word) (Holds r) apart e in
+    let taken = accepted-as Unheld (Holds (marked No (recordOf mode (infoIn word)))) (readRefusals mode word) (Holds r) no-record e in
     (taken .0, ap (recordIn r) (taken .1))
-  where
-    apart : (k : ℕ) → Unheld k ≡ Holds r → ⊥
-    apart k e = let z : _≡_ {A = ℕ} 0 1 = cc in omega arith
 
 -- and what was read, written again, is the same elements
 pub written-of-read : (mode : ℕ) (r : Record) (word : List ℕ) → readOf mode word ≡ Holds r → Acceptable mode r × (wordOf mode r ≡ word)

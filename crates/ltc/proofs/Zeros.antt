@@ -5,11 +5,11 @@ use mathlib.Core.Path.{_≡_, _∙_}
 use native.Mathlib.Omega.{arith}
 use lib.Dec.{eqb}
 use lib.Count.{ones as counted, ones-le}
-use Rattle.bits.specs.Bits.{toBits, howMany, zeros}
+use Rattle.bits.specs.Bits.{toBits, howMany, zerosIn}
 use Rattle.bits.proofs.Count.{count-zeros, howMany-append}
 use Rattle.ltc.specs.Word.{syncWord, wordWith, oddZeros}
 
-pub word-zeros : (info : ℕ) → info < 2 ^ 64 → zeros (wordWith info) ≡ 67 - counted info
+pub word-zeros : (info : ℕ) → info < 2 ^ 64 → zerosIn (wordWith info) ≡ 67 - counted info
 unfolding syncWord howMany
 word-zeros info h =
     let own = count-zeros 64 info h in

@@ -6,7 +6,7 @@ use mathlib.Core.Bool.{Bool, cond}
 use mathlib.Core.List.{List, [], _∷_, _++_}
 use lib.Dec.{eqb}
 use lib.ListN.{take}
-use Rattle.bits.specs.Bits.{value, toBits, zeros}
+use Rattle.bits.specs.Bits.{value, toBits, zerosIn}
 use Rattle.clock.specs.declared.types.Flag.the-variants.{Yes}
 use Rattle.record.specs.declared.types.Record.{Record}
 use Rattle.record.specs.Record.{infoOf, marked}
@@ -23,7 +23,7 @@ abbrev pub infoIn : List ℕ → ℕ
 infoIn word = value (take 64 word)
 
 unfoldable pub oddZeros : List ℕ → Bool
-oddZeros word = eqb (zeros word % 2) 1
+oddZeros word = eqb (zerosIn word % 2) 1
 
 -- the polarity bit is set where the zeros would else be odd
 abbrev pub correctedOf : ℕ → Record → ℕ

@@ -10,7 +10,7 @@ use native.Mathlib.Nat.{zero-add}
 use lib.Dec.{ltb, eqb, leb·suc-suc}
 use lib.ListN.{length, take}
 use borrow.Author.Tests.{lt-ltb, le-ltb, ne-eqb}
-use Rattle.bits.specs.Bits.{toBits, howMany, ones, AllBits}
+use Rattle.bits.specs.Bits.{toBits, howMany, onesIn, AllBits}
 use Rattle.bits.proofs.Bit.{head-within, tail-within}
 use Rattle.reader.specs.Blank.{blank}
 
@@ -38,12 +38,12 @@ blank-long (zero ∷ xs) ys h = ap suc (blank-long xs ys (omega arith)) ∙ omeg
 blank-long (suc x ∷ xs) ys h = absurd (omega arith)
 
 -- a part of a list of bits has a one exactly where it is longer than what is blank
-pub ones-by-blank : (k : ℕ) (bits : List ℕ) → AllBits bits → k ≤ length bits → not (eqb (ones (take k bits)) 0) ≡ ltb (blank bits) k
+pub ones-by-blank : (k : ℕ) (bits : List ℕ) → AllBits bits → k ≤ length bits → not (eqb (onesIn (take k bits)) 0) ≡ ltb (blank bits) k
 unfolding howMany blank
 ones-by-blank zero bits all h = sym (le-ltb (blank bits) 0 (omega arith))
 ones-by-blank (suc k) [] all h = absurd (omega arith)
 ones-by-blank (suc k) (zero ∷ bits) all h =
-    rw (zero-add (ones (take k bits)), leb·suc-suc (suc (blank bits)) k) (ones-by-blank k bits (tail-within 1 0 bits all) (omega arith))
+    rw (zero-add (onesIn (take k bits)), leb·suc-suc (suc (blank bits)) k) (ones-by-blank k bits (tail-within 1 0 bits all) (omega arith))
 ones-by-blank (suc k) (suc zero ∷ bits) all h =
-    rw (ne-eqb (1 + ones (take k bits)) 0 (omega arith), lt-ltb 0 (suc k) (omega arith))
+    rw (ne-eqb (1 + onesIn (take k bits)) 0 (omega arith), lt-ltb 0 (suc k) (omega arith))
 ones-by-blank (suc k) (suc (suc n) ∷ bits) all h = let low = head-within 1 (suc (suc n)) bits all in absurd (omega arith)

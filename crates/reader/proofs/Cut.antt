@@ -19,7 +19,7 @@ use Rattle.reader.specs.Steps.{steppedOf}
 use Rattle.reader.specs.Blocks.{isAnswer, oneMore, going}
 use Rattle.reader.specs.Reach.{fed, answers}
 use Rattle.reader.specs.Cuts.{said}
-use Rattle.reader.proofs.Passing.{not-taken}
+use Rattle.reader.proofs.Passing.{high-not-taken}
 
 pub block-fed : (run : List ℕ) (r : Reader) (limit : ℕ) → fed r (take (going r limit run .taken) run) ≡ going r limit run .reader
 unfolding going fed
@@ -36,7 +36,7 @@ block-fed (element ∷ elements) r limit =
     go : (l : Bool) → eqb limit 0 ≡ l → (h : Bool) → ltb 1 element ≡ h → (a : Bool) → isAnswer (steppedOf r element .heard) ≡ a
         → fed next (take (going next (limit - 1) elements .taken) elements) ≡ going next (limit - 1) elements .reader → Said
     go true l h e a f rest = rw l
-    go false l true e a f rest = rw (l, e) (sym (not-taken r element e))
+    go false l true e a f rest = rw (l, e) (sym (high-not-taken r element e))
     go false l false e true f rest = rw (l, e, f)
     go false l false e false f rest = rw (l, e, f, add-one (going next (limit - 1) elements .taken)) rest
 

@@ -12,7 +12,8 @@ use Rattle.reader.specs.declared.types.Reader.{Reader}
 use Rattle.reader.specs.declared.types.Heard.{Heard}
 use Rattle.reader.specs.Reach.{fed, answers, Reached}
 use Rattle.reader.specs.Cuts.{said, Cut, cutBlock, inBlocks, AllOpen}
-use Rattle.reader.proofs.Passing.{Passing, reached-passing}
+use Rattle.reader.specs.Feeding.{Passing}
+use Rattle.reader.proofs.Passing.{reached-passing}
 use Rattle.reader.proofs.OneBlock.{next-passing, rest-clean, block-then-fed, block-then-answers, rest-shorter}
 
 passing-answers :

@@ -20,19 +20,19 @@ module _ (limit : ℕ) (run : List ℕ) (first : Reader) (end : ℕ) where
   pub begins :
       first .info < 2 ^ 64 → first .sync < 2 ^ 16 → ltb 2 (first .mode) ≡ false → unreached first ≡ false → end ≡ min limit (length run)
       → Feeding limit run first end first 0
-  begins low high known passes = feeding-begins limit run first end record { known = known; passes = passes; low = low; high = high }
+  begins low high known passes = feeding-begins limit run first end record { passing = record { known = known; passes = passes }; low = low; high = high }
 
   module _ (reader : Reader) (taken : ℕ) (f : Feeding limit run first end reader taken) where
     pub within : taken < end → taken < length run
     within more = omega (arith, f .ends)
 
     pub sound : unreached reader ≡ false
-    sound = f .sound .passes
+    sound = f .sound .passing .passes
 
     pub pushed-sound :
         (next : Reader) → getD run taken 0 ≤ 1 → next ≡ readerWith (reader .mode) (push (heldBits reader) (getD run taken 0)) → unreached next ≡ false
     pushed-sound next small pushes =
-        let s = f .sound in next-passes reader (getD run taken 0) (s .low) (s .high) (s .passes) small (s .known) next pushes
+        let s = f .sound in next-passes reader (getD run taken 0) (s .low) (s .high) (s .passing .passes) small (s .passing .known) next pushes
 
     -- the bit was taken, and what is heard was looked at
     module _

@@ -23,9 +23,10 @@ use Rattle.reader.specs.Held.{heldBits, latest, push, readerWith}
 use Rattle.reader.specs.Steps.{told, heardIn, steppedOf}
 use Rattle.reader.specs.Reach.{answers}
 use Rattle.reader.specs.Following.{CodeWord}
+use Rattle.reader.specs.Feeding.{Passing}
 use Rattle.reader.proofs.Registers.{held-of, held-clean}
 use Rattle.reader.proofs.Taken.{push-few, push-clean}
-use Rattle.reader.proofs.Passing.{Passing, passing-takes, step-passing}
+use Rattle.reader.proofs.Passing.{passing-takes, step-passing}
 use Rattle.reader.proofs.Window.{push-latest, unlike-hears-nothing}
 
 -- one answer for each bit after a past

@@ -18,8 +18,9 @@ use Rattle.reader.specs.Steps.{steppedOf}
 use Rattle.reader.specs.Blocks.{isAnswer, going, blockedOf}
 use Rattle.reader.specs.Reach.{fed, answers}
 use Rattle.reader.specs.Cuts.{said, Cut, cutBlock}
+use Rattle.reader.specs.Feeding.{Passing}
 use Rattle.reader.proofs.Cut.{block-fed, block-answers, fed-cut, answers-cut}
-use Rattle.reader.proofs.Passing.{Passing, fed-passing, passing-goes}
+use Rattle.reader.proofs.Passing.{fed-passing, passing-goes}
 
 -- a block takes no more bits than it is lent
 going-within : (run : List ℕ) (r : Reader) (limit : ℕ) → going r limit run .taken ≤ length run
@@ -41,8 +42,9 @@ unfolding blockedOf
 taken-within r limit run = go (ltb 2 (r .mode)) refl (unreached r) refl
   where
     go : (m : Bool) → ltb 2 (r .mode) ≡ m → (u : Bool) → unreached r ≡ u → blockedOf r limit run .taken ≤ length run
-    go true m u v = rw m (omega arith)
-    go false m true v = rw (m, v) (omega arith)
+    go true m true v = simp (m, v) (omega arith)
+    go true m false v = simp (m, v) (omega arith)
+    go false m true v = simp (m, v) (omega arith)
     go false m false v = rw (m, v) (going-within run r limit)
 
 -- with a limit, and a bit to take, it takes one

@@ -1,34 +1,40 @@
 -- A reader whose mode and state are sound stays so, whatever is fed, and a block of it is never refused by 2 or 13.
 -- Assumes nothing.
 use Prim.Native.Nat.{ℕ}
-use mathlib.Core.Path.{_≡_, refl, subst}
+use mathlib.Core.Path.{_≡_, refl, subst, _∙_}
 use mathlib.Core.Bool.{Bool, true, false}
 use mathlib.Core.List.{List, [], _∷_}
+use mathlib.Core.Logic.{inl, inr}
 use lib.Dec.{ltb}
 use borrow.Author.Tests.{ltb-false}
+use Rattle.refusals.specs.Table.{element-too-high}
+use Rattle.refusals.specs.Answer.{Applies}
+use Rattle.refusals.proofs.Lowest.{not-clear, kept, carried}
 use Rattle.bits.specs.Bits.{toBits, howMany}
 use Rattle.reader.specs.declared.types.Reader.{Reader}
+use Rattle.reader.specs.declared.types.Heard.the-variants.{Refused}
+use Rattle.reader.specs.declared.types.Stepped.{Stepped}
 use Rattle.reader.specs.Held.{heldBits, push, readerWith, freshOf, unreached}
-use Rattle.reader.specs.Steps.{taking, steppedOf}
+use Rattle.reader.specs.Steps.{after, feedRefusals, taking, steppedOf}
 use Rattle.reader.specs.Blocks.{going, blockedOf}
+use Rattle.reader.specs.Feeding.{Passing}
+use Rattle.reader.specs.Counting.{takesBit}
 use Rattle.reader.specs.Reach.{fed, Reached}
 use Rattle.reader.proofs.Registers.{held-clean, check-of}
 use Rattle.reader.proofs.Taken.{push-few, push-clean}
 
--- "with that bit not taken"
-pub not-taken : (r : Reader) (element : ℕ) → ltb 1 element ≡ true → steppedOf r element .reader ≡ r
+-- "A reader refused with 2, 3 or 13 comes back the same, with that bit not taken": whichever of the three applies
+pub not-taken : (r : Reader) (element n : ℕ) → Applies n (feedRefusals r element) → (steppedOf r element .reader ≡ r) × (takesBit r element ≡ false)
 unfolding steppedOf
-not-taken r element high = go (ltb 2 (r .mode)) refl (unreached r) refl
-  where
-    go : (s : Bool) → ltb 2 (r .mode) ≡ s → (t : Bool) → unreached r ≡ t → steppedOf r element .reader ≡ r
-    go false s false u = simp (s, u, high)
-    go false s true u = simp (s, u)
-    go true s false u = simp (s, u)
-    go true s true u = simp (s, u)
+not-taken r element n refused =
+    let rows = feedRefusals r element in
+    let some = not-clear n rows refused in
+    let back = carried (λ (s : Stepped). s .reader) (λ (k : ℕ). after r (Refused k)) (taking r element) rows in
+    (back ∙ kept r (taking r element .reader) rows some, kept false true rows some)
 
-pub record Passing (reader : Reader) : Type 0 where
-  pub known : ltb 2 (reader .mode) ≡ false
-  pub passes : unreached reader ≡ false
+-- by 3, an element above 1
+pub high-not-taken : (r : Reader) (element : ℕ) → ltb 1 element ≡ true → steppedOf r element .reader ≡ r
+high-not-taken r element high = not-taken r element element-too-high (inr (inr (inl (refl, high)))) .0
 
 -- a bit is pushed onto the list
 pub passing-takes : (r : Reader) (element : ℕ) → Passing r → ltb 1 element ≡ false → steppedOf r element ≡ taking r element
@@ -43,7 +49,7 @@ step-passing r element p = go (ltb 1 element) refl
     bits = heldBits r
 
     go : (t : Bool) → ltb 1 element ≡ t → Passing (steppedOf r element .reader)
-    go true t = rw (not-taken r element t) p
+    go true t = rw (high-not-taken r element t) p
     go false t =
         let small = ltb-false 1 element t in
         rw (passing-takes r element p t)

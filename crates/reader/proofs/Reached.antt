@@ -15,9 +15,10 @@ use Rattle.reader.specs.declared.types.Reader.{Reader}
 use Rattle.reader.specs.Held.{heldBits, push, readerWith, freshOf, unreached}
 use Rattle.reader.specs.Steps.{steppedOf}
 use Rattle.reader.specs.Reach.{fed, Reached}
+use Rattle.reader.specs.Feeding.{Passing}
 use Rattle.reader.proofs.Registers.{held-of, check-of, few, held-length, held-clean, reader-of-held}
 use Rattle.reader.proofs.Pushed.{push-grows}
-use Rattle.reader.proofs.Passing.{Passing, passing-takes, reached-passing}
+use Rattle.reader.proofs.Passing.{passing-takes, reached-passing}
 
 fresh-is : (mode : ℕ) → freshOf mode ≡ readerWith mode []
 unfolding readerWith value

@@ -10,7 +10,7 @@ use lib.ListN.{length, take, drop, replicate, length-append, length-replicate, l
 use lib.Seq.{length-take-le, take-at, drop-at}
 use borrow.Author.Tests.{ltb-false, le-ltb, eqb-true, not-false}
 use Rattle.refusals.proofs.Lowest.{neither}
-use Rattle.bits.specs.Bits.{value, toBits, someAbove, howMany, ones, AllBits}
+use Rattle.bits.specs.Bits.{value, toBits, someAbove, howMany, onesIn, AllBits}
 use Rattle.bits.proofs.Bit.{head-within, tail-within, within-append, within-take, within-drop, length-toBits, bits-of-number}
 use Rattle.bits.proofs.Inverse.{value-toBits, toBits-value}
 use Rattle.reader.specs.declared.types.Reader.{Reader}
@@ -22,12 +22,12 @@ unfolding someAbove
 zeros-clean zero = refl
 zeros-clean (suc n) = zeros-clean n
 
-no-ones : (n : ℕ) → ones (replicate n 0) ≡ 0
+no-ones : (n : ℕ) → onesIn (replicate n 0) ≡ 0
 unfolding howMany
 no-ones zero = refl
 no-ones (suc n) = rw (no-ones n)
 
-all-zeros : (bits : List ℕ) → AllBits bits → ones bits ≡ 0 → bits ≡ replicate (length bits) 0
+all-zeros : (bits : List ℕ) → AllBits bits → onesIn bits ≡ 0 → bits ≡ replicate (length bits) 0
 unfolding howMany
 all-zeros [] all none = refl
 all-zeros (zero ∷ bits) all none = ap (λ (l : List ℕ). 0 ∷ l) (all-zeros bits (tail-within 1 0 bits all) (omega arith))
@@ -92,7 +92,7 @@ module _ (r : Reader) (low : r .info < 2 ^ 64) (high : r .sync < 2 ^ 16) (passes
   unfolding unreached
   below-is-zero =
       let k = 80 - r .held in
-      let none = eqb-true (ones (take k (register r))) 0 (not-false _ (neither (ltb 80 (r .held)) _ passes .1)) in
+      let none = eqb-true (onesIn (take k (register r))) 0 (not-false _ (neither (ltb 80 (r .held)) _ passes .1)) in
       let size : length (take k (register r)) ≡ k = length-take-le k (register r) (rw (register-length r) (omega arith)) in
       rw size at (all-zeros (take k (register r)) (within-take 1 k (register r) (register-clean r)) none)
 

@@ -14,7 +14,8 @@ use Rattle.reader.specs.Held.{unreached}
 use Rattle.reader.specs.Steps.{steppedOf}
 use Rattle.reader.specs.Blocks.{isAnswer, going, blockedOf}
 use Rattle.reader.specs.Counting.{takesBit, stepsTaking, upToAnswer}
-use Rattle.reader.proofs.Passing.{Passing, step-passing, passing-goes}
+use Rattle.reader.specs.Feeding.{Passing}
+use Rattle.reader.proofs.Passing.{step-passing, passing-goes}
 
 takes : (r : Reader) (element : ℕ) → Passing r → ltb 1 element ≡ false → takesBit r element ≡ true
 takes r element p small = rw (p .known, p .passes, small)

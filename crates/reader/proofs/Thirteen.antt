@@ -24,7 +24,8 @@ use Rattle.reader.specs.Held.{heldBits, push, unreached}
 use Rattle.reader.specs.Steps.{told, heardIn, steppedOf}
 use Rattle.reader.specs.Blocks.{isAnswer, going, blockedOf}
 use Rattle.reader.specs.Reach.{Reached}
-use Rattle.reader.proofs.Passing.{Passing, step-passing, reached-passing, passing-goes}
+use Rattle.reader.specs.Feeding.{Passing}
+use Rattle.reader.proofs.Passing.{step-passing, reached-passing, passing-goes}
 use Rattle.reader.proofs.Reached.{reached-exactly}
 
 -- the number of a refusal

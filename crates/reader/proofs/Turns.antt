@@ -29,13 +29,13 @@ at-limit reader (element ∷ elements) = refl
 module _ (reader : Reader) (s : Sound reader) (limit : ℕ) (some : eqb limit 0 ≡ false) (element : ℕ) (elements : List ℕ) where
   high-stops : 1 < element → going reader limit (element ∷ elements) ≡ stopped (Refused 3) reader 0
   unfolding going steppedOf
-  high-stops high = rw (some, s .known, s .passes, lt-ltb 1 element high)
+  high-stops high = rw (some, s .passing .known, s .passing .passes, lt-ltb 1 element high)
 
   module _
       (small : element ≤ 1) (next : Reader) (pushes : next ≡ readerWith (reader .mode) (push (heldBits reader) element))
       (heard : Heard) (told : heard ≡ heardIn (next .mode) (heldBits next)) where
     stepped : steppedOf reader element ≡ record { heard = heard; reader = next }
-    stepped = sym (step-taken reader element (s .low) (s .high) (s .passes) small (s .known) next pushes heard told)
+    stepped = sym (step-taken reader element (s .low) (s .high) (s .passing .passes) small (s .passing .known) next pushes heard told)
 
     answer-stops : isAnswer heard ≡ true → going reader limit (element ∷ elements) ≡ stopped heard next 1
     unfolding going
@@ -107,8 +107,11 @@ module _ (limit : ℕ) (run : List ℕ) (first : Reader) (end : ℕ) where
               ends = f .ends;
               sound =
                   record {
-                    known = rw (same-mode reader (getD run taken 0) (s .low) (s .high) (s .passes) small (s .known) next pushes) (s .known);
-                    passes = next-passes reader (getD run taken 0) (s .low) (s .high) (s .passes) small (s .known) next pushes;
+                    passing =
+                        record {
+                          known = rw (same-mode reader (getD run taken 0) (s .low) (s .high) (s .passing .passes) small (s .passing .known) next pushes) (s .passing .known);
+                          passes = next-passes reader (getD run taken 0) (s .low) (s .high) (s .passing .passes) small (s .passing .known) next pushes;
+                        };
                     low = low;
                     high = high;
                   };

@@ -15,10 +15,14 @@ use Rattle.reader.specs.Blocks.{stopped, going}
 abbrev pub moreBefore : ℕ → Blocked → Blocked
 moreBefore taken block = stopped (block .heard) (block .reader) (taken + block .taken)
 
--- a reader whose mode and state are sound, and whose words are machine words
-pub record Sound (reader : Reader) : Type 0 where
+-- a reader whose mode and state are sound
+pub record Passing (reader : Reader) : Type 0 where
   pub known : ltb 2 (reader .mode) ≡ false
   pub passes : unreached reader ≡ false
+
+-- and whose words are machine words
+pub record Sound (reader : Reader) : Type 0 where
+  pub passing : Passing reader
   pub low : reader .info < 2 ^ 64
   pub high : reader .sync < 2 ^ 16
 

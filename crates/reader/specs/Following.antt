@@ -1,6 +1,7 @@
--- Demand 3: "Take a reader in any state that feeding can bring a fresh one to. Feed it, end to end, code words that demand 2 accepts in its
--- mode, addresses in any order. Each is reported, as itself, at its 80th bit. After the fifth bit of the first word there is no other report
--- and no complaint."
+-- Demand 3: "Take a reader in any state that feeding can bring a fresh one to. From there feed it, unchanged and end to end, code words that
+-- demand 2 accepts in the reader's mode, their addresses in any order. Each word is reported, as itself, at its 80th bit. After the fifth bit of the
+-- first word the reader makes no report and no complaint anywhere else. Earlier leftovers may still complete a false word in those first five bits,
+-- and not later."
 -- Assumes nothing.
 use Prim.Native.Nat.{ℕ, _≤_}
 use mathlib.Core.Path.{_≡_}
@@ -21,12 +22,12 @@ pub record CodeWord (mode : ℕ) : Type 0 where
   pub accepted : readOf mode bits ≡ Holds says
 
 module _ {mode : ℕ} where
-  -- "Feed it, end to end, code words"
+  -- "feed it, unchanged and end to end, code words"
   unfoldable pub endToEnd : List (CodeWord mode) → List ℕ
   endToEnd [] = []
   endToEnd (word ∷ words) = word .bits ++ endToEnd words
 
-  -- "Each is reported, as itself, at its 80th bit", and there is no other report and no complaint
+  -- "Each word is reported, as itself, at its 80th bit", with "no report and no complaint anywhere else"
   unfoldable pub eachAsItself : List (CodeWord mode) → List Heard
   eachAsItself [] = []
   eachAsItself (word ∷ words) = (replicate 79 Nothing ++ (Accepted (word .says) ∷ [])) ++ eachAsItself words

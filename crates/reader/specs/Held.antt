@@ -5,7 +5,7 @@ use mathlib.Core.Bool.{Bool, not, _||_}
 use mathlib.Core.List.{List, [], _∷_, _++_}
 use lib.Dec.{ltb, eqb}
 use lib.ListN.{length, take, drop, replicate}
-use Rattle.bits.specs.Bits.{value, toBits, ones}
+use Rattle.bits.specs.Bits.{value, toBits, onesIn}
 use Rattle.reader.specs.declared.types.Reader.{Reader}
 
 -- the 80 places of a reader's register, the oldest bit first
@@ -38,4 +38,4 @@ freshOf mode = record { mode = mode; held = 0; info = 0; sync = 0 }
 
 -- in a mode up to 2, a state that no feeding reaches holds more than 80 bits, or a one below those that it holds
 unfoldable pub unreached : Reader → Bool
-unreached reader = ltb 80 (reader .held) || not (eqb (ones (take (80 - reader .held) (register reader))) 0)
+unreached reader = ltb 80 (reader .held) || not (eqb (onesIn (take (80 - reader .held) (register reader))) 0)

@@ -1,2 +1,2 @@
--- Within    what is taken, sifted or told lies within what it was taken from
-pub mod Within
+-- Told      a piece is told, and the scribe goes on
+pub mod Told

@@ -219,7 +219,7 @@ module _ (mode n : ℕ) (low : n < 2 ^ 64) (clear : Clear (withMode mode (bitsRe
 no-bits : {n : ℕ} (k : ℕ) → Unpackable k ≡ Bits n → ⊥
 no-bits k e = let z : _≡_ {A = ℕ} 0 1 = cc in omega arith
 
-no-record : {r : Record} (k : ℕ) → Unheld k ≡ Holds r → ⊥
+pub no-record : {r : Record} (k : ℕ) → Unheld k ≡ Holds r → ⊥
 no-record k e = let z : _≡_ {A = ℕ} 0 1 = cc in omega arith
 
 -- said of the calls: a record makes 64 bits exactly where those bits hold the record

@@ -1,4 +1,4 @@
--- "The lowest that applies is given. No refusal is given otherwise": of a list in rising order the first that applies is the lowest.
+-- "The lowest that applies is given .. No refusal is given otherwise": of a list in rising order the first that applies is the lowest.
 -- Assumes nothing.
 use Prim.Native.Nat.{ℕ, _≤_, _<_}
 use mathlib.Core.Path.{_≡_, refl, _∙_, sym}
@@ -70,6 +70,17 @@ module _ {A : Type 0} (refused : ℕ → A) (accepted : A) where
       go true e rest = absurd (none (row .number) (rw e))
       go false e rest = (e, rest (λ n same. none n (rw e same)))
 
+  -- a list is clear, or a number is given
+  pub clear-or-refused : (rows : List Refusal) → Clear rows ⊎ ((n : ℕ) × (answer refused rows accepted ≡ refused n))
+  clear-or-refused [] = inl tt
+  clear-or-refused (row ∷ rows) = go (row .applies) refl (clear-or-refused rows)
+    where
+      go : (t : Bool) → row .applies ≡ t → Clear rows ⊎ ((n : ℕ) × (answer refused rows accepted ≡ refused n))
+          → Clear (row ∷ rows) ⊎ ((n : ℕ) × (answer refused (row ∷ rows) accepted ≡ refused n))
+      go true e rest = inr (row .number, rw e)
+      go false e (inl clear) = inl (e, clear)
+      go false e (inr given) = inr (given .0, rw e (given .1))
+
   -- an answer that is no refusal is what is accepted
   pub accepted-as :
       (rows : List Refusal) (given : A) → ((n : ℕ) → refused n ≡ given → ⊥) → answer refused rows accepted ≡ given
@@ -77,6 +88,15 @@ module _ {A : Type 0} (refused : ℕ → A) (accepted : A) where
   accepted-as rows given apart e =
       let clear = accepted-only rows (λ n same. apart n (sym same ∙ e)) in
       (clear, sym (otherwise-accepted rows clear) ∙ e)
+
+-- a list in which a number applies is not clear
+pub not-clear : (n : ℕ) (rows : List Refusal) → Applies n rows → Clear rows → ⊥
+not-clear n (row ∷ rows) (inl a) clear = true≢false (sym (a .1) ∙ clear .0)
+not-clear n (row ∷ rows) (inr a) clear = not-clear n rows a (clear .1)
+
+-- where a list is not clear, what is the same for every number is given
+pub kept : {A : Type 0} (same accepted : A) (rows : List Refusal) → (Clear rows → ⊥) → answer (λ (n : ℕ). same) rows accepted ≡ same
+kept same accepted rows some = ⊎-elim (λ clear. absurd (some clear)) (λ given. given .1) (clear-or-refused (λ (n : ℕ). same) accepted rows)
 
 -- an answer that is carried over to another kind of answer lists the same refusals
 pub carried :

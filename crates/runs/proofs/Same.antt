@@ -1,19 +1,15 @@
 -- The test of two runs for the same elements, and what gathering tells of a run.
 -- Assumes nothing.
 use Prim.Native.Nat.{ℕ, _≤_}
-use mathlib.Core.Path.{_≡_, refl, sym, ap, ap₂}
-use mathlib.Core.Bool.{Bool, true, false, _&&_, false≢true}
+use mathlib.Core.Path.{_≡_, refl, ap₂}
+use mathlib.Core.Bool.{Bool, true, false, _&&_, cond, false≢true}
 use mathlib.Core.List.{List, [], _∷_}
-use native.Mathlib.Omega.{arith}
-use lib.Dec.{eqb}
+use lib.Dec.{ltb, eqb}
 use lib.ListN.{length}
 use borrow.Author.Tests.{eq-eqb, eqb-true, le-ltb}
-use Rattle.refusals.specs.Answer.{Rising}
-use Rattle.refusals.proofs.Lowest.{accepted-as}
 use Rattle.bits.specs.Bits.{value, someAbove}
-use Rattle.runs.specs.declared.carry.Gathered.{Gathered}
-use Rattle.runs.specs.declared.carry.Gathered.the-variants.{Number, Refused}
-use Rattle.runs.specs.Gather.{gatherRefusals, gatheredOf}
+use Rattle.runs.specs.declared.carry.Gathered.the-variants.{Number, TooLong, NoBit}
+use Rattle.runs.specs.Gather.{gatheredOf}
 use Rattle.runs.specs.Run.{same}
 
 pub both-true : (s t : Bool) → (s && t) ≡ true → (s ≡ true) × (t ≡ true)
@@ -42,31 +38,21 @@ not-same xs ys other = go (same xs ys) refl
     go true e = absurd (other (same-elements xs ys e))
     go false e = e
 
--- "the lowest that applies is given"
-pub gather-rows-rise : (run : List ℕ) → Rising (gatherRefusals run)
-gather-rows-rise run = omega arith
-
-numberIn : Gathered → ℕ
-numberIn (Number n) = n
-numberIn (Refused n) = n
-
 -- a number that was gathered is the run's, all of whose elements are bits
 pub gathered-is : (run : List ℕ) (n : ℕ) → gatheredOf run ≡ Number n → (someAbove 1 run ≡ false) × (n ≡ value run)
-unfolding gatheredOf numberIn
-gathered-is run n e =
-    let taken = accepted-as Refused (Number (value run)) (gatherRefusals run) (Number n) apart e in
-    (taken .0 .1 .0, sym (ap numberIn (taken .1)))
-  where
-    apart : (k : ℕ) → Refused k ≡ Number n → ⊥
-    apart k e = let z : _≡_ {A = ℕ} 0 1 = cc in omega arith
-
--- a run of at most 64 elements that was refused has an element above 1
-pub not-gathered : (run : List ℕ) (n : ℕ) → length run ≤ 64 → gatheredOf run ≡ Refused n → someAbove 1 run ≡ true
 unfolding gatheredOf
-not-gathered run n short e = go (someAbove 1 run) refl
+gathered-is run n e = go (ltb 64 (length run)) (someAbove 1 run) e
+  where
+    go : (long high : Bool) → cond long TooLong (cond high NoBit (Number (value run))) ≡ Number n → (high ≡ false) × (n ≡ value run)
+    go true high is = (cc, cc)
+    go false true is = (cc, cc)
+    go false false is = (refl, cc)
+
+-- at most 64 elements that make no number have one above 1
+pub not-gathered : (run : List ℕ) → length run ≤ 64 → ((n : ℕ) → gatheredOf run ≡ Number n → ⊥) → someAbove 1 run ≡ true
+unfolding gatheredOf
+not-gathered run short none = go (someAbove 1 run) refl
   where
     go : (t : Bool) → someAbove 1 run ≡ t → someAbove 1 run ≡ true
     go true t = t
-    go false t =
-        let number : Number (value run) ≡ Refused n = rw (le-ltb 64 (length run) short, t) at e in
-        let z : _≡_ {A = ℕ} 0 1 = cc in absurd (omega arith)
+    go false t = absurd (none (value run) (rw (le-ltb 64 (length run) short, t)))

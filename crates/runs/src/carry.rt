@@ -4,17 +4,18 @@ ghost use lib.ListN.{length};
 ghost use Rattle.bits.specs.Bits.{toBits};
 ghost use Rattle.runs.specs.Gather.{gatheredOf};
 
-// The number that a run of at most 64 bits stands for.
+// The number that a run of at most 64 bits stands for. A longer run has none, nor has one with an element above 1.
 pub enum Gathered {
     Number(u64),
-    Refused(u8),
+    TooLong,
+    NoBit,
 }
 
 pub fn gather(run: &[u8]) -> Gathered
     ensures { λ r. ⌜ r ≡ gatheredOf (now (run .entry)) ⌝ }
 {
     if 64 < run.len() {
-        return Gathered::Refused(refusals::WRONG_LENGTH);
+        return Gathered::TooLong;
     }
     let mut number: u64 = 0;
     let mut i = run.len();
@@ -22,7 +23,7 @@ pub fn gather(run: &[u8]) -> Gathered
         i -= 1;
         let bit = run[i];
         if 1 < bit {
-            return Gathered::Refused(refusals::ELEMENT_TOO_HIGH);
+            return Gathered::NoBit;
         }
         number = 2 * number + bit as u64;
     }

@@ -3,10 +3,8 @@
 -- Shape     how long the parts of a line are, and that they are bits
 -- Turns     the loops begin, go on and end
 -- InfoTurns the loop over the information bits begins, goes on and ends
--- Answers   a list of refusals that goes on in another
 pub mod Lists
 pub mod Stride
-pub mod Answers
 pub mod Shape
 pub mod Turns
 pub mod InfoTurns

@@ -7,7 +7,7 @@ use mathlib.Core.List.{List, [], _∷_}
 use native.Mathlib.Omega.{arith}
 use native.Mathlib.Nat.{not-suc-le-zero, le-of-suc-le-suc}
 use lib.Dec.{ltb}
-use lib.ListN.{length, getD, drop}
+use lib.ListN.{length, getD}
 use borrow.Author.Tests.{ltb-true, ltb-false}
 use Rattle.refusals.proofs.Lowest.{neither}
 use Rattle.bits.specs.Bits.{someAbove}
@@ -35,11 +35,6 @@ pub within-at : (limit : ℕ) (xs : List ℕ) (i : ℕ) → someAbove limit xs �
 within-at limit [] i e = omega arith
 within-at limit (x ∷ xs) zero e = head-within limit x xs e
 within-at limit (x ∷ xs) (suc i) e = within-at limit xs i (tail-within limit x xs e)
-
-pub clean-part : (limit start : ℕ) (xs : List ℕ) → someAbove limit xs ≡ false → someAbove limit (drop start xs) ≡ false
-clean-part limit zero xs e = e
-clean-part limit (suc start) [] e = e
-clean-part limit (suc start) (x ∷ xs) e = clean-part limit start xs (tail-within limit x xs e)
 
 module _ (test : ℕ → Bool) where
   pub some-of : (count i : ℕ) → i < count → test i ≡ true → someBelow count test ≡ true

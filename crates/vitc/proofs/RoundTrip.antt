@@ -19,21 +19,16 @@ use Rattle.record.specs.declared.types.Unpacked.the-variants.{Holds, Refused as
 use Rattle.record.specs.declared.types.Packed.the-variants.{Bits, Refused as Unpackable}
 use Rattle.record.specs.Record.{recordOf, infoOf}
 use Rattle.record.specs.Calls.{withMode, bitsRefusals, writeRefusals, packedOf, unpackedOf}
-use Rattle.record.proofs.RoundTrip.{information, one-to-one as bits-one-to-one}
+use Rattle.record.proofs.RoundTrip.{information, no-record, one-to-one as bits-one-to-one}
+use Rattle.record.proofs.Told.{packed-is}
 use Rattle.vitc.specs.declared.writing.Written.the-variants.{Done, Refused}
 use Rattle.vitc.specs.Line.{infoIn, lineWith, lineOf}
 use Rattle.vitc.specs.Calls.{readRefusals, readOf, writtenRows, writtenOf, runOf}
 use Rattle.vitc.proofs.Shape.{length-line}
 use Rattle.vitc.proofs.Whole.{Sound, info-below, line-one-to-one}
 
-no-record : (r : Record) (k : ℕ) → Unheld k ≡ Holds r → ⊥
-no-record r k e = let z : _≡_ {A = ℕ} 0 1 = cc in omega arith
-
 not-done : (k : ℕ) → Refused k ≡ Done → ⊥
 not-done k e = let z : _≡_ {A = ℕ} 0 1 = cc in omega arith
-
-no-bits : (n k : ℕ) → Unpackable k ≡ Bits n → ⊥
-no-bits n k e = let z : _≡_ {A = ℕ} 0 1 = cc in omega arith
 
 module _ (mode : ℕ) (r : Record) (line : List ℕ) where
   -- a line reads as a record exactly where it is sound and its 64 bits hold the record
@@ -43,7 +38,7 @@ module _ (mode : ℕ) (r : Record) (line : List ℕ) where
     where
       there : readOf mode line ≡ Holds r → Sound line × (unpackedOf mode (infoIn line) ≡ Holds r)
       there e =
-          let taken = accepted-as Unheld (Holds (recordOf mode (infoIn line))) (readRefusals mode line) (Holds r) (no-record r) e in
+          let taken = accepted-as Unheld (Holds (recordOf mode (infoIn line))) (readRefusals mode line) (Holds r) no-record e in
           let clear = taken .0 in
           let rest = clear .1 .1 .1 .1 .1 in (
             record {
@@ -60,7 +55,7 @@ module _ (mode : ℕ) (r : Record) (line : List ℕ) where
       back h =
           let s = h .0 in
           let taken =
-          accepted-as Unheld (Holds (recordOf mode (infoIn line))) (withMode mode (bitsRefusals mode (infoIn line))) (Holds r) (no-record r) (h .1) in
+          accepted-as Unheld (Holds (recordOf mode (infoIn line))) (withMode mode (bitsRefusals mode (infoIn line))) (Holds r) no-record (h .1) in
           let clear = taken .0 in
           let ninety : not (eqb (length line) 90) ≡ false = rw (eq-eqb (length line) 90 (s .long)) in
           otherwise-accepted Unheld (Holds (recordOf mode (infoIn line))) (readRefusals mode line)
@@ -85,9 +80,8 @@ module _ (mode : ℕ) (r : Record) (line : List ℕ) where
           let both = reads .0 e in
           let small = info-below line (both .0) in
           let packed = bits-one-to-one mode (infoIn line) r small .1 (both .1) in
-          let taken = accepted-as Unpackable (Bits (infoOf mode r)) (withMode mode (writeRefusals mode r)) (Bits (infoIn line)) (no-bits (infoIn line)) packed in
-          let same : infoOf mode r ≡ infoIn line = cc (taken .1) in
-          (taken .0, ap lineWith same ∙ line-one-to-one (infoIn line) line small .1 (both .0, refl))
+          let made = packed-is mode r (infoIn line) packed in
+          (made .0, ap lineWith (made .1) ∙ line-one-to-one (infoIn line) line small .1 (both .0, refl))
 
 -- a record that was read is refused nowhere, where there is room
 read-clear :

@@ -2,20 +2,15 @@
 -- Assumes nothing.
 use Prim.Native.Nat.{ℕ, zero, suc, _+_, _%_, _<_, _≤_}
 use mathlib.Core.Path.{_≡_, refl, sym}
-use mathlib.Core.Bool.{false, cond}
+use mathlib.Core.Bool.{false}
 use mathlib.Core.List.{List, [], _∷_, _++_}
 use native.Mathlib.Omega.{arith}
-use native.Mathlib.Nat.{zero-add, add-zero, not-suc-le-zero, le-of-suc-le-suc}
+use native.Mathlib.Nat.{zero-add, add-zero}
 use lib.Dec.{eqb}
 use lib.ListN.{length, drop}
 use borrow.Author.Tests.{eq-eqb, ne-eqb}
+use Rattle.bits.proofs.Count.{one-counts}
 use Rattle.vitc.specs.Line.{onesFrom}
-
--- an element that is a bit counts for itself
-pub counts : (bit : ℕ) → bit ≤ 1 → cond (eqb bit 1) 1 0 ≡ bit
-counts zero h = refl
-counts (suc zero) h = refl
-counts (suc (suc n)) h = absurd (not-suc-le-zero (le-of-suc-le-suc h))
 
 module _ (remainder : ℕ) where
   -- the counts of two runs side by side
@@ -44,4 +39,4 @@ module _ (remainder : ℕ) where
   unfolding onesFrom
   stride x xs place bit at =
       let next : suc place + 7 ≡ place + 8 = omega arith in
-      rw (eq-eqb (place % 8) remainder at, counts x bit, skip 7 xs (suc place) (λ i h e. omega arith), next)
+      rw (eq-eqb (place % 8) remainder at, one-counts x bit, skip 7 xs (suc place) (λ i h e. omega arith), next)

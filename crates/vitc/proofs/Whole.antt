@@ -12,9 +12,10 @@ use lib.Seq.{ext-getD, getD-take, take-at, length-take-le}
 use borrow.Author.Tests.{eqb-true, eqb-false, not-false}
 use Rattle.refusals.proofs.Lowest.{neither}
 use Rattle.bits.specs.Bits.{toBits, AllBits}
+use Rattle.bits.proofs.Bit.{within-drop}
 use Rattle.bits.proofs.Inverse.{toBits-value, value-below}
 use Rattle.vitc.specs.Line.{placeOf, informationOf, infoIn, wrongAt, wrongPair, wrongCrc, payload, crcOf, lineWith}
-use Rattle.vitc.proofs.Lists.{length-each, getD-each, within-each, within-at, none-of, clean-part}
+use Rattle.vitc.proofs.Lists.{length-each, getD-each, within-each, within-at, none-of}
 use Rattle.vitc.proofs.Shape.{length-payload, length-line, clean-line}
 use Rattle.vitc.proofs.Crc.{crc-right, crc-only}
 use Rattle.vitc.proofs.Standing.{bit-stands, pair-stands, pairs-right, info-stands}
@@ -117,7 +118,7 @@ module _ (line : List ℕ) (s : Sound line) where
       let right : wrongCrc (take 82 line ++ drop 82 line) ≡ false = rw apart (s .crc) in
       let eight : length (drop 82 line) ≡ 8 = rw (length-drop 82 line, s .long) in
       let crc : drop 82 line ≡ crcOf (take 82 line) =
-      crc-only (take 82 line) (length-take-le 82 line (omega (arith, s .long))) (drop 82 line) eight (clean-part 1 82 line (s .clean)) right in
+      crc-only (take 82 line) (length-take-le 82 line (omega (arith, s .long))) (drop 82 line) eight (within-drop 1 82 line (s .clean)) right in
       rw (same-front, ← crc) apart
 
 -- so 64 bits make a line exactly where the line is sound and they are read from it

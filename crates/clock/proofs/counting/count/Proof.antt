@@ -49,14 +49,14 @@ mul-place-2 c = omega (arith, fits c)
 add-place-2 : tie.Need-add-place-2
 add-place-2 c = omega (arith, fits c)
 
-sub-result : tie.Need-sub-result
-sub-result c = search needs
+sub-number : tie.Need-sub-number
+sub-number c = search needs
 
-mul-result : tie.Need-mul-result
-mul-result c = search needs
+mul-number : tie.Need-mul-number
+mul-number c = search needs
 
-sub-result-2 : tie.Need-sub-result-2
-sub-result-2 c =
+sub-number-2 : tie.Need-sub-number-2
+sub-number-2 c =
     let args = c .before .before .before .before .before .before .args in
     let call = c .before .before .before .before .before .frames-in-second in
     omega (arith, large (args .mode) (call .result) (args .a) (call .ensures))
@@ -82,8 +82,8 @@ count-spec =
     add-place
     mul-place-2
     add-place-2
-    sub-result
-    mul-result
-    sub-result-2
+    sub-number
+    mul-number
+    sub-number-2
     returns
     returns-2)

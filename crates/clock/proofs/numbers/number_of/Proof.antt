@@ -6,6 +6,7 @@ use Prim.Native.Nat.{ℕ}
 use borrow.Author.Needs.{needs}
 use Rattle.clock.specs.declared.types.Flag.{Flag}
 use Rattle.clock.specs.declared.types.Address.{Address}
+use Rattle.clock.specs.declared.types.DayFrame.{DayFrame}
 use Rattle.clock.specs.declared.types.Verdict.{Verdict}
 use Rattle.clock.specs.declared.types.Verdict.the-variants.{Sound, Refused as Unsound}
 use Rattle.clock.specs.declared.types.Numbered.the-variants.{Number, Refused as Unnumbered}
@@ -22,8 +23,8 @@ module _ (mode : ℕ) (drop : Flag) (a : Address) (found : Verdict) (judged : fo
   refused n e = refused-by Unnumbered _ (refusalsOf mode drop a) found judged n e
 
   counted :
-      (dropped : Bool) (n : ℕ) → dropped ≡ isYes drop → n ≡ countOf (framesInSecond mode) dropped a → found ≡ Sound
-      → Number (record { 0 = n }) ≡ numberOf mode drop a
+      (dropped : Bool) (n : DayFrame) → dropped ≡ isYes drop → n .0 ≡ countOf (framesInSecond mode) dropped a → found ≡ Sound
+      → Number n ≡ numberOf mode drop a
   unfolding numberOf
   counted dropped n asked e sound =
       ap (λ (k : ℕ). Number (record { 0 = k })) (e ∙ ap (λ (d : Bool). countOf (framesInSecond mode) d a) asked)

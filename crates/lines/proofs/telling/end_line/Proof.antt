@@ -7,8 +7,7 @@ use mathlib.Core.List.{List, [], _∷_, _++_}
 use native.Mathlib.Omega.{arith}
 use lib.ListN.{length}
 use Rattle.runs.specs.Run.{placed}
-use Rattle.lines.specs.Characters.{space, lineFeed}
-use Rattle.lines.specs.Lines.{decimal, theWordEnd, endLineOf}
+use Rattle.lines.specs.Lines.{space, lineFeed, decimal, theWordEnd, endLineOf}
 use Rattle.lines.proofs.Appends.{Appended, three-stand}
 use Rattle.lines.proofs.Spelled.{at-most}
 use Rattle.lines.proofs.telling.end_line.Statement.{statement}

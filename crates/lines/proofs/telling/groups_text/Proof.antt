@@ -5,8 +5,7 @@ use Prim.Native.Nat.{ℕ}
 use mathlib.Core.Path.{_≡_}
 use mathlib.Core.List.{[], _∷_, _++_}
 use Rattle.record.specs.declared.types.Record.{Record}
-use Rattle.lines.specs.Characters.{space, lineFeed}
-use Rattle.lines.specs.Lines.{hexDigit, groupsText}
+use Rattle.lines.specs.Lines.{space, lineFeed, hexDigit, groupsText}
 use Rattle.lines.proofs.telling.groups_text.Statement.{statement}
 use Rattle.lines.proofs.telling.groups_text.Tie as tie
 

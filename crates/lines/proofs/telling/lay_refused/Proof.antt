@@ -5,8 +5,7 @@ use Prim.Native.Nat.{ℕ, _+_, _≤_, _<_}
 use mathlib.Core.List.{List, [], _∷_, _++_}
 use native.Mathlib.Omega.{arith}
 use lib.ListN.{length}
-use Rattle.lines.specs.Characters.{space, lineFeed}
-use Rattle.lines.specs.Lines.{decimal, theWordRefused, refusedText}
+use Rattle.lines.specs.Lines.{space, lineFeed, decimal, theWordRefused, refusedText}
 use Rattle.lines.proofs.Appends.{Appended, Stands, three-stand}
 use Rattle.lines.proofs.Spelled.{few-digits}
 use Rattle.lines.proofs.telling.lay_refused.Statement.{statement}

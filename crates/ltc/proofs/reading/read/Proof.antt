@@ -38,17 +38,11 @@ gather-requires-2 c κs = search needs
 enum-known-low : tie.Need-enum-known-low
 enum-known-low c = search needs
 
-enum-told : tie.Need-enum-told
-enum-told c = search needs
-
 returns-3 : tie.Need-returns-3
 returns-3 c = search no-bit-low
 
 enum-known-high : tie.Need-enum-known-high
 enum-known-high c = search needs
-
-enum-told-2 : tie.Need-enum-told-2
-enum-told-2 c = search needs
 
 returns-4 : tie.Need-returns-4
 returns-4 c = search no-bit-high
@@ -77,10 +71,8 @@ read-spec =
     part-gather-end-2
     gather-requires-2
     enum-known-low
-    enum-told
     returns-3
     enum-known-high
-    enum-told-2
     returns-4
     returns-5
     read-info-requires

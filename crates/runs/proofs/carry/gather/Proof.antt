@@ -8,7 +8,7 @@ use mathlib.Core.List.{List}
 use lib.ListN.{length, getD}
 use borrow.Author.Needs.{needs}
 use borrow.Author.Tests.{lt-ltb, le-ltb}
-use Rattle.runs.specs.declared.carry.Gathered.the-variants.{Number, Refused}
+use Rattle.runs.specs.declared.carry.Gathered.the-variants.{Number, TooLong, NoBit}
 use Rattle.runs.specs.Gather.{gatheredOf}
 use Rattle.runs.specs.Loops.{Gathering}
 use Rattle.runs.proofs.Turns.{gather-begins, gather-turns, gather-room, gather-ends, some-element-above}
@@ -16,7 +16,7 @@ use Rattle.runs.proofs.carry.gather.Statement.{statement}
 use Rattle.runs.proofs.carry.gather.Tie as tie
 
 module _ (run : List ℕ) where
-  too-long : 64 < length run → Refused 1 ≡ gatheredOf run
+  too-long : 64 < length run → TooLong ≡ gatheredOf run
   unfolding gatheredOf
   too-long h = rw (lt-ltb 64 (length run) h)
 
@@ -25,7 +25,7 @@ module _ (run : List ℕ) where
     here : Gathering run number (suc (i - 1))
     here = let same : suc (i - 1) ≡ i = omega arith in rw same g
 
-    no-bit : 1 < getD run (i - 1) 0 → Refused 3 ≡ gatheredOf run
+    no-bit : 1 < getD run (i - 1) 0 → NoBit ≡ gatheredOf run
     unfolding gatheredOf
     no-bit high = rw (le-ltb 64 (length run) (g .short), some-element-above run (i - 1) (here .within) high)
 
@@ -61,7 +61,7 @@ shared-slice-read-bit : tie.Need-shared-slice-read-bit Inv-loop μ-loop
 shared-slice-read-bit c = omega arith
 
 returns-2 : tie.Need-returns-2 Inv-loop μ-loop
-returns-2 c = search no-bit
+returns-2 c = no-bit _ _ _ (c .before .before .before .loop .inv) (omega arith) (omega arith)
 
 mul-number : tie.Need-mul-number Inv-loop μ-loop
 mul-number c = let low : c .before .before .before .loop .number < 2 ^ 63 = search room in omega arith

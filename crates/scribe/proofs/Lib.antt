@@ -1,0 +1,16 @@
+-- Sifts     the loop over characters begins, goes on and ends
+-- SiftTests what each test of a turn over the characters leads to
+-- Lined     the lines of a run of bits, block by block
+-- Follows   the loop over the blocks of a run begins, goes on and ends
+-- Tells     the characters that count, sifted and told
+-- Judged    what is turned away, and what is told
+-- Pieces    one piece after the other
+-- Cuts      a piece ends anywhere
+pub mod Sifts
+pub mod SiftTests
+pub mod Lined
+pub mod Follows
+pub mod Tells
+pub mod Judged
+pub mod Pieces
+pub mod Cuts
