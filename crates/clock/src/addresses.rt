@@ -114,7 +114,7 @@ fn back_by(frames: i32) -> u32
     !frames as u32
 }
 
-// A number of the day plus a signed count, round midnight either way.
+// A number below a day of so many plus a signed count, round the day either way.
 fn sum(day: u32, number: u32, frames: i32) -> u32
     requires { ⌜ (0 < day) × ((day ≤ 2592000) × (number < 30000000)) ⌝ }
     ensures { λ r. ⌜ r ≡ sumOf day number frames ⌝ }

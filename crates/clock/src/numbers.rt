@@ -38,7 +38,7 @@ fn difference(a: u32, b: u32) -> i32
     }
 }
 
-// The distance between two numbers of a day.
+// The distance from one number to another, round a day of so many.
 fn between(day: u32, from: u32, to: u32) -> i32
     requires { ⌜ (day ≤ 2592000) × ((from < 30000000) × (to < 30000000)) ⌝ }
     ensures { λ r. ⌜ r ≡ distanceOf day from to ⌝ }

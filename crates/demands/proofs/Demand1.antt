@@ -2,48 +2,39 @@
 -- number in document 01's table; nothing relies on the caller having looked first. A write that is turned away changes no element lent to it."
 -- What it says of every call is in the promises of the calls, and docs/PROMISES.md says where; what it says of a write is here, of every carrier.
 -- Assumes nothing.
-use Prim.Native.Nat.{ℕ}
-use mathlib.Core.Path.{_≡_, sym, _∙_}
-use mathlib.Core.List.{List}
-use mathlib.Core.Logic.{_⊎_, inl, inr, ⊎-elim}
+use Prim.Native.Nat.{ℕ, _+_, _≤_}
+use mathlib.Core.Path.{_≡_}
+use mathlib.Core.List.{List, [], _∷_, _++_}
+use mathlib.Core.Logic.{inl, inr, ⊎-elim}
 use native.Mathlib.Omega.{arith}
-use Rattle.refusals.specs.Answer.{Refusal, answer}
-use Rattle.refusals.proofs.Lowest.{otherwise-accepted, clear-or-refused, kept}
-use Rattle.runs.specs.Run.{placed, runAfter}
+use lib.Dec.{ltb}
+use lib.ListN.{length}
+use Rattle.refusals.specs.Table.{mode-above-2, type-above-2, mark-set}
+use Rattle.refusals.specs.Answer.{_when_}
+use Rattle.runs.proofs.Written.{done-or-refused, unchanged, has-room}
+use Rattle.clock.specs.Modes.{isYes}
+use Rattle.record.specs.declared.types.Record.{Record}
+use Rattle.record.specs.Calls.{withMode, writeRefusals}
 use Rattle.ltc.specs.Word.{wordOf}
 use Rattle.ltc.specs.Calls as ltc
 use Rattle.ltc.specs.declared.writing.Written.the-variants.{Done as LtcDone, Refused as LtcRefused}
 use Rattle.vitc.specs.Line.{lineOf}
 use Rattle.vitc.specs.Calls as vitc
 use Rattle.vitc.specs.declared.writing.Written.the-variants.{Done as VitcDone, Refused as VitcRefused}
+use Rattle.atc.specs.declared.types.Contents.{Contents}
 use Rattle.atc.specs.Calls as atc
 use Rattle.atc.specs.declared.types.Written.the-variants.{Done as AtcDone, Refused as AtcRefused}
 use Rattle.demands.specs.Carriers.{linear, interval, ancillary, DoneOrRefused, Unchanged}
 
 -- done and refused are two answers
-ltc-apart : (number : ℕ) → LtcRefused number ≡ LtcDone → ⊥
+pub ltc-apart : (number : ℕ) → LtcRefused number ≡ LtcDone → ⊥
 ltc-apart number e = let z : _≡_ {A = ℕ} 0 1 = cc in omega arith
 
-vitc-apart : (number : ℕ) → VitcRefused number ≡ VitcDone → ⊥
+pub vitc-apart : (number : ℕ) → VitcRefused number ≡ VitcDone → ⊥
 vitc-apart number e = let z : _≡_ {A = ℕ} 0 1 = cc in omega arith
 
-atc-apart : (number : ℕ) → AtcRefused number ≡ AtcDone → ⊥
+pub atc-apart : (number : ℕ) → AtcRefused number ≡ AtcDone → ⊥
 atc-apart number e = let z : _≡_ {A = ℕ} 0 1 = cc in omega arith
-
--- what a write answers and the run that it leaves, by one list of refusals
-module _ {A : Type 0} (refused : ℕ → A) (done : A) (apart : (number : ℕ) → refused number ≡ done → ⊥) (rows : List Refusal) where
-  abbrev written : A
-  written = answer refused rows done
-
-  done-or-refused : ((written ≡ done) ⊎ ((number : ℕ) × (written ≡ refused number))) × ((number : ℕ) → written ≡ done → written ≡ refused number → ⊥)
-  done-or-refused = (
-    ⊎-elim (λ clear. inl (otherwise-accepted refused done rows clear)) inr (clear-or-refused refused done rows),
-    λ number is-done is-refused. apart number (sym is-refused ∙ is-done),
-  )
-
-  unchanged : (start : ℕ) (word run : List ℕ) (number : ℕ) → written ≡ refused number → runAfter rows start word run ≡ run
-  unchanged start word run number is-refused =
-      kept run (placed start word run) rows (λ clear. apart number (sym is-refused ∙ otherwise-accepted refused done rows clear))
 
 -- Every write is done, or it is turned away with a number, and never both. Shut out: a write that does neither.
 pub linear-done-or-refused : DoneOrRefused linear
@@ -78,3 +69,19 @@ ancillary-unchanged mode c start run number refused =
     let rows = atc.writtenRows mode (c .«record») (c .«payload_type») start run in
     let packet = atc.packetOf mode (c .«record») (c .«payload_type») (c .second) in
     unchanged AtcRefused AtcDone atc-apart rows start packet run number refused
+
+-- and it is turned away where there is no room
+pub linear-room : (mode : ℕ) (r : Record) (start : ℕ) (run : List ℕ) → linear .Writes mode r start run → start + 80 ≤ length run
+unfolding ltc.writtenOf ltc.writtenRows
+linear-room mode r start run =
+    has-room LtcRefused LtcDone ltc-apart (withMode mode (writeRefusals mode r ++ ((mark-set when isYes (r .mark)) ∷ []))) 80 start run
+
+pub interval-room : (mode : ℕ) (r : Record) (start : ℕ) (run : List ℕ) → interval .Writes mode r start run → start + 90 ≤ length run
+unfolding vitc.writtenOf
+interval-room mode r start run = has-room VitcRefused VitcDone vitc-apart (withMode mode (writeRefusals mode r)) 90 start run
+
+pub ancillary-room : (mode : ℕ) (c : Contents) (start : ℕ) (run : List ℕ) → ancillary .Writes mode c start run → start + 23 ≤ length run
+unfolding atc.writtenOf
+ancillary-room mode c start run done =
+    let rows = (mode-above-2 when ltb 2 mode) ∷ (type-above-2 when ltb 2 (c .«payload_type»)) ∷ writeRefusals mode (c .«record») in
+    has-room AtcRefused AtcDone atc-apart rows 23 start run (done .1)

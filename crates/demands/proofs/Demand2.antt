@@ -28,6 +28,7 @@ use Rattle.atc.specs.Calls.{packetOf}
 use Rattle.atc.proofs.RoundTrip as atc
 use Rattle.demands.specs.Modes.{CountingMode}
 use Rattle.demands.specs.Carriers.{Carrier, linear, interval, ancillary, Accepting, Reading, Matches}
+use Rattle.demands.proofs.Demand1.{linear-room, interval-room, ancillary-room}
 use Rattle.demands.proofs.Accepted.{known, allowed, acceptable-exactly}
 
 -- "Frame numbers of a day and addresses match one to one, drop-frame or not": of `clock::number_of` and `clock::address_of`, in every mode.
@@ -48,9 +49,10 @@ module _ {mode : ℕ} {drop : Flag} (counts : CountingMode mode drop) where
       ↔ ((n : ℕ) → shown (framesInSecond mode) (isYes drop) n ≡ a → ⊥)
   turned-away-exactly = refused-exactly mode drop (known counts) (allowed counts)
 
--- what is known of a carrier: what a done write leaves reads as its content; what reads is written again, has the carrier's size and is taken; and
+-- what is known of a carrier: a done write had room; what it leaves reads as its content; what reads is written again, has the carrier's size and is taken; and
 -- what is taken has elements that read as it
 record Laws {Content : Type 0} (carrier : Carrier Content) : Type 0 where
+  roomy : (mode : ℕ) (c : Content) (start : ℕ) (run : List ℕ) → carrier .Writes mode c start run → start + carrier .size ≤ length run
   done-reads :
       (mode : ℕ) (c : Content) (start : ℕ) (run : List ℕ) → start + carrier .size ≤ length run → carrier .Writes mode c start run
       → carrier .Reads mode (take (carrier .size) (drop start (carrier .leaves mode c start run))) c
@@ -63,9 +65,9 @@ record Laws {Content : Type 0} (carrier : Carrier Content) : Type 0 where
   reads : (mode : ℕ) (c : Content) → carrier .Accepts mode c → carrier .Reads mode (elementsOf mode c) c
 
 accepting : {Content : Type 0} (carrier : Carrier Content) → Laws carrier → Accepting carrier
-accepting carrier law mode c start run room = (
-  λ written. law .taken mode c _ (law .done-reads mode c start run room written),
-  λ ok. law .read-writes mode c start run (law .elementsOf mode c) room (law .reads mode c ok) .0,
+accepting carrier law mode c start run = (
+  λ written. (let room = law .roomy mode c start run written in (room, law .taken mode c _ (law .done-reads mode c start run room written))),
+  λ ok. law .read-writes mode c start run (law .elementsOf mode c) (ok .0) (law .reads mode c (ok .1)) .0,
 )
 
 reading : {Content : Type 0} (carrier : Carrier Content) → Laws carrier → Reading carrier
@@ -90,6 +92,7 @@ matches carrier law mode c start run elements room = (there, back)
 linear-laws : Laws linear
 linear-laws =
     record {
+      roomy = linear-room;
       done-reads = λ mode r start run room done. ltc.done-reads mode r start run done;
       read-writes = λ mode r start run word room reads. ltc.read-writes mode r start run word reads room;
       sized = λ mode r word reads. ltc.long mode word (ltc.read-clear mode r word reads .0);
@@ -103,6 +106,7 @@ linear-laws =
 interval-laws : Laws interval
 interval-laws =
     record {
+      roomy = interval-room;
       done-reads = λ mode r start run room done. vitc.one-to-one mode r start run _ room .0 (done, refl);
       read-writes = λ mode r start run line room reads. vitc.read-writes mode r start run line room reads;
       sized = λ mode r line reads. vitc.reads mode r line .0 reads .0 .long;
@@ -114,6 +118,7 @@ interval-laws =
 ancillary-laws : Laws ancillary
 ancillary-laws =
     record {
+      roomy = ancillary-room;
       done-reads = λ mode c start run room done. atc.done-reads mode (c .«record») (c .«payload_type») (c .second) start run (done .0) (done .1);
       read-writes =
           λ mode c start run words room reads. (let written = atc.read-writes mode (c .«record») (c .«payload_type») (c .second) start run words reads room in
@@ -128,8 +133,8 @@ ancillary-laws =
           (acceptable-exactly mode (c .«record») .1 (ok .0), ok .1) (ok .2);
     }
 
--- "Words on the linear track, vertical interval lines and ancillary packets .. read or written". A write that has room is done exactly where the
--- record is acceptable, and what else the carrier asks for holds. Shut out: a writer that refuses each record.
+-- "Words on the linear track, vertical interval lines and ancillary packets .. read or written". A write is done exactly where there is
+-- room, the record is acceptable, and what else the carrier asks for holds. Shut out: a writer that refuses each record, one that is done without room.
 pub linear-accepts : Accepting linear
 linear-accepts = accepting linear linear-laws
 

@@ -84,11 +84,11 @@ module _ {Content : Type 0} (carrier : Carrier Content) where
       (mode : ℕ) (content : Content) (start : ℕ) (run : List ℕ) (number : ℕ) → carrier .Refuses mode content start run number
       → carrier .leaves mode content start run ≡ run
 
-  -- A write that has room is done exactly where the carrier takes the content.
+  -- A write is done exactly where there is room and the carrier takes the content.
   abbrev pub Accepting : Type 0
   Accepting =
-      (mode : ℕ) (content : Content) (start : ℕ) (run : List ℕ) → start + carrier .size ≤ length run
-      → carrier .Writes mode content start run ↔ carrier .Accepts mode content
+      (mode : ℕ) (content : Content) (start : ℕ) (run : List ℕ)
+      → carrier .Writes mode content start run ↔ ((start + carrier .size ≤ length run) × carrier .Accepts mode content)
 
   -- And some elements read as a content exactly where the carrier takes it.
   abbrev pub Reading : Type 0

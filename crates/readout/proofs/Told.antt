@@ -11,7 +11,7 @@ use Rattle.scribe.specs.declared.types.Scribe.{Scribe}
 use Rattle.scribe.specs.declared.types.Telling.{Telling}
 use Rattle.scribe.specs.declared.types.Told.{Told}
 use Rattle.scribe.specs.declared.types.Told.the-variants.{Lines, Refused}
-use Rattle.scribe.specs.Told.{textOf, scribeAfter, tellingOf, ToldOf, Brought, piece}
+use Rattle.scribe.specs.Told.{textOf, tellingOf, ToldOf, Brought, piece}
 use Rattle.scribe.proofs.Pieces.{brought-sound, fewer-left, told-so}
 use Rattle.readout.specs.Piece.{PieceTold}
 

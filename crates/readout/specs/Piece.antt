@@ -8,7 +8,7 @@ use Rattle.scribe.specs.declared.types.Scribe.{Scribe}
 use Rattle.scribe.specs.declared.types.Telling.{Telling}
 use Rattle.scribe.specs.Told.{textOf, tellingOf}
 
--- characters came, the scribe is the one that they bring about, and their lines stand at the start of the lent run
+-- some characters came, or none; the scribe is the one that they bring about, and their lines stand at the start of the lent run
 pub record PieceTold (before : Scribe) (out : List ℕ) (telling : Telling) (out-left : List ℕ) : Type 0 where
   pub characters : List ℕ
   pub told : telling ≡ tellingOf before characters

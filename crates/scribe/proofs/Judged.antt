@@ -9,6 +9,7 @@ use lib.Dec.{ltb}
 use lib.ListN.{length}
 use borrow.Author.Tests.{lt-ltb, le-ltb}
 use Rattle.runs.specs.Run.{placed}
+use Rattle.runs.proofs.Written.{unchanged}
 use Rattle.clock.specs.declared.types.Verdict.{Verdict}
 use Rattle.clock.specs.declared.types.Verdict.the-variants.{Sound, Refused as Unsound}
 use Rattle.reader.specs.declared.types.Reader.{Reader}
@@ -21,7 +22,7 @@ use Rattle.scribe.specs.declared.types.Scribe.{Scribe}
 use Rattle.scribe.specs.declared.types.Telling.{Telling}
 use Rattle.scribe.specs.declared.types.Told.the-variants.{Lines, Refused}
 use Rattle.scribe.specs.Characters.{bitsIn}
-use Rattle.scribe.specs.Told.{counted, textOf, tellingOf, toldOf, charactersAfter, outOf, ToldOf}
+use Rattle.scribe.specs.Told.{counted, textOf, tellingOf, tellRefusals, toldOf, charactersAfter, outOf, ToldOf}
 use Rattle.scribe.specs.Blocks.{verdictIn}
 
 quiet-at-0 : (r : Reader) (run : List ℕ) → going r 0 run .heard ≡ Nothing
@@ -29,7 +30,18 @@ unfolding going
 quiet-at-0 r [] = refl
 quiet-at-0 r (element ∷ elements) = refl
 
+not-told : (telling : Telling) (n : ℕ) → Refused n ≡ Lines telling → ⊥
+not-told telling n e = let z : _≡_ {A = ℕ} 0 1 = cc in omega arith
+
 module _ (before : Scribe) (characters out : List ℕ) where
+  -- a call that is turned away leaves the characters and the run as they were
+  pub refused-leaves : (n : ℕ) → toldOf before characters out ≡ Refused n → (charactersAfter before characters out ≡ characters) × (outOf before characters out ≡ out)
+  unfolding toldOf charactersAfter outOf
+  refused-leaves n e =
+      let telling = tellingOf before characters in
+      let same = unchanged Refused (Lines telling) (not-told telling) (tellRefusals before characters out) 0 in
+      (same (bitsIn (counted before characters)) characters n e, same (textOf before characters) out n e)
+
   module _ (run : List ℕ) {asked : Blocked} {found : Verdict} (took : asked ≡ blockedOf (before .reader) 0 run) (says : found ≡ verdictIn (asked .heard)) where
     judged : found ≡ verdictIn (blockedOf (before .reader) 0 run .heard)
     judged = says ∙ rw took

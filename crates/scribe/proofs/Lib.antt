@@ -5,7 +5,6 @@
 -- Tells     the characters that count, sifted and told
 -- Judged    what is turned away, and what is told
 -- Pieces    one piece after the other
--- Cuts      a piece ends anywhere
 pub mod Sifts
 pub mod SiftTests
 pub mod Lined
@@ -13,4 +12,3 @@ pub mod Follows
 pub mod Tells
 pub mod Judged
 pub mod Pieces
-pub mod Cuts

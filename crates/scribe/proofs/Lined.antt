@@ -1,12 +1,11 @@
 -- A block's answer and its line are those of its single steps: the lines of a run of bits are the line of its first block, and then the lines of the rest.
 -- Assumes nothing.
-use Prim.Native.Nat.{ℕ, zero, suc, _+_, _-_, _%_, _^_, _≤_, _<_}
-use mathlib.Core.Path.{_≡_, refl, sym, ap, ap₂, _∙_}
-use mathlib.Core.Bool.{Bool, true, false, cond, true≢false}
-use mathlib.Core.List.{List, [], _∷_, _++_, append-assoc}
+use Prim.Native.Nat.{ℕ, zero, suc, _+_, _-_, _%_, _^_, _<_}
+use mathlib.Core.Path.{_≡_, refl, sym, ap, _∙_}
+use mathlib.Core.Bool.{Bool, true, false, true≢false}
+use mathlib.Core.List.{List, [], _∷_, _++_}
 use native.Mathlib.Omega.{arith}
-use lib.Dec.{ltb}
-use lib.ListN.{length, take, drop, replicate, length-drop}
+use lib.ListN.{length, drop, replicate, length-drop}
 use lib.Seq.{take-all}
 use Rattle.bits.specs.Bits.{AllBits}
 use Rattle.reader.specs.declared.types.Reader.{Reader}

@@ -1,12 +1,12 @@
 -- Pieces of characters, one after the other: the reader stays sound, the characters that may still come grow fewer, and where there is room each piece is told.
 -- Assumes nothing.
-use Prim.Native.Nat.{ℕ, _+_, _-_, _*_, _≤_, _<_}
+use Prim.Native.Nat.{ℕ, _+_, _*_, _≤_, _<_}
 use mathlib.Core.Path.{_≡_, refl, _∙_}
 use mathlib.Core.Bool.{Bool, true, false, _&&_}
 use mathlib.Core.List.{List}
 use native.Mathlib.Omega.{arith}
 use lib.Dec.{ltb}
-use lib.ListN.{length, length-take}
+use lib.ListN.{length}
 use borrow.Author.Tests.{le-ltb, ltb-true}
 use Rattle.bits.specs.Bits.{toBits, howMany}
 use Rattle.runs.specs.Run.{placed}
@@ -14,7 +14,6 @@ use Rattle.runs.proofs.Same.{both-true}
 use Rattle.reader.specs.Held.{unreached}
 use Rattle.reader.specs.Feeding.{Passing}
 use Rattle.reader.proofs.Passing.{fed-passing}
-use Rattle.lines.proofs.Laid.{starts-within}
 use Rattle.scribe.specs.declared.types.Scribe.{Scribe}
 use Rattle.scribe.specs.declared.types.Told.{Told}
 use Rattle.scribe.specs.declared.types.Told.the-variants.{Lines}

@@ -1,12 +1,12 @@
 -- The characters that count, sifted where they stand, are the bits that are told, and the lines of these are those of the piece.
 -- Assumes nothing.
-use Prim.Native.Nat.{ℕ, suc, _+_, _-_, _*_, _≤_, _<_, min}
+use Prim.Native.Nat.{ℕ, _+_, _-_, _*_, _≤_, min}
 use mathlib.Core.Path.{_≡_, refl, sym, ap, _∙_}
 use mathlib.Core.Bool.{Bool, true, false}
 use mathlib.Core.List.{List, [], _∷_, _++_, append-assoc}
 use native.Mathlib.Omega.{arith}
 use lib.Dec.{ltb, eqb}
-use lib.ListN.{length, take, drop, length-take, length-append, take-append-drop}
+use lib.ListN.{length, take, drop, take-append-drop}
 use lib.Seq.{take-all, length-take-le, take-at, drop-append-le}
 use borrow.Author.Tests.{ltb-true, ltb-false, eqb-true}
 use Rattle.bits.specs.Bits.{AllBits, someAbove}
@@ -16,7 +16,6 @@ use Rattle.reader.specs.Reach.{answers}
 use Rattle.lines.specs.Lines.{zeroDigit}
 use Rattle.lines.proofs.Laid.{starts-within}
 use Rattle.scribe.specs.declared.types.Scribe.{Scribe}
-use Rattle.scribe.specs.declared.types.Telling.{Telling}
 use Rattle.scribe.specs.declared.sifting.Sifted.{Sifted}
 use Rattle.scribe.specs.declared.following.Block.{Block}
 use Rattle.scribe.specs.Characters.{isSkipped, isDigit, oneDigit, bitsIn, goesOn, siftedOf}

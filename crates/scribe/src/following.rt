@@ -1,4 +1,4 @@
-// Bits to answers, and answers to lines.
+// A piece of characters to its bits, bits to answers, and answers to lines.
 ghost use mathlib.Core.Path.{_≡_};
 ghost use Prim.Native.Nat.{_≤_, min};
 ghost use Rattle.reader.specs.Reach.{answers};
@@ -130,7 +130,7 @@ fn telling(before: Scribe, characters: &mut [u8], out: &mut [u8]) -> Telling
     }
 }
 
-// The same, where there is room.
+// The same, unless there is no room.
 fn told_with_room(before: Scribe, characters: &mut [u8], out: &mut [u8]) -> Told
     requires { ⌜ Passing (before .reader) ⌝ }
     ensures { λ t. ⌜ ToldOf before (now (characters .entry)) (now (out .entry)) t (now (characters .exit)) (now (out .exit)) ⌝ }
@@ -152,6 +152,7 @@ fn verdict(heard: Heard) -> Verdict
     }
 }
 
+// What a piece of characters is told. A piece of none is the end of the input.
 pub fn tell(before: Scribe, characters: &mut [u8], out: &mut [u8]) -> Told
     ensures { λ t. ⌜ ToldOf before (now (characters .entry)) (now (out .entry)) t (now (characters .exit)) (now (out .exit)) ⌝ }
 {

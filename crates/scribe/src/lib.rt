@@ -2,7 +2,7 @@
 //
 // types      where a scribe stands, and what it tells
 // sifting    the bits that characters stand for
-// following  bits to answers, and answers to lines
+// following  a piece of characters to its lines
 mod following;
 mod sifting;
 mod types;

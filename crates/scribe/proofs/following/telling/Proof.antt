@@ -1,57 +1,42 @@
+-- `scribe::following::telling` meets its contract: the characters that count, sifted where they stand, are the bits that are told.
+-- Assumes nothing.
 use borrow.Author.Needs.{needs}
 use mathlib.Core.Path.{refl}
 use Rattle.scribe.proofs.Tells.{all-count, bits-within, sized, run-ready, told-whole}
 use Rattle.scribe.proofs.following.telling.Statement.{statement}
 use Rattle.scribe.proofs.following.telling.Tie as tie
-use Rattle.scribe.proofs.following.telling.Reads as reads
-use Rattle.scribe.proofs.following.telling.Lts as lts
-use Rattle.scribe.proofs.following.left_after.Reads as left-after-reads
-use Rattle.scribe.proofs.following.lesser.Reads as lesser-reads
-use Rattle.scribe.proofs.following.told_run.Reads as told-run-reads
-use Rattle.scribe.proofs.sifting.sift.Reads as sift-reads
 
--- src/following.rt:117:9
 lesser-requires : tie.Need-lesser-requires
 lesser-requires c κs = search needs
 
--- src/following.rt:118:23
 slice-relend-prefix-sift : tie.Need-slice-relend-prefix-sift
 slice-relend-prefix-sift c = search needs
 
--- src/following.rt:118:23
 slice-aggregate-sift : tie.Need-slice-aggregate-sift
 slice-aggregate-sift c = all-count (c .before .before .before .before .args .before) _ _ (c .before .lesser .ensures) refl refl
 
--- src/following.rt:118:9
 sift-requires : tie.Need-sift-requires
 sift-requires c κs = search needs
 
--- src/following.rt:121:46
 slice-reshare-prefix-told-run : tie.Need-slice-reshare-prefix-told-run
 slice-reshare-prefix-told-run c = bits-within (c .before .before .before .before .before .before .before .before .args .before) _ _ (c .before .before .before .before .before .lesser .ensures) (c .before .before .before .sift .ensures .0) (c .before .before .before .sift .ensures .1)
 
--- src/following.rt:121:46
 slice-aggregate-told-run : tie.Need-slice-aggregate-told-run
 slice-aggregate-told-run c = sized (c .before .before .before .before .before .before .before .before .before .args .before) _ _ (c .before .before .before .before .before .before .lesser .ensures) (c .before .before .before .before .sift .ensures .0) (c .before .before .before .before .sift .ensures .1)
 
--- src/following.rt:121:9
 told-run-requires : tie.Need-told-run-requires
 told-run-requires c κs =
     run-ready (c .before .before .before .before .before .before .before .before .before .before .args .before) _ _ (c .before .before .before .before .before .before .before .lesser .ensures) (c .before .before .before .before .before .sift .ensures .0) (c .before .before .before .before .before .sift .ensures .1) _ (c .before .before .before .before .before .before .before .before .before .before .pre)
 
--- src/following.rt:127:19
 left-after-requires : tie.Need-left-after-requires
 left-after-requires c κs = search needs
 
--- src/following.rt:113:1
 same-length : tie.Need-same-length
 same-length c = search needs
 
--- src/following.rt:113:1
 same-length-2 : tie.Need-same-length-2
 same-length-2 c = search needs
 
--- src/following.rt:113:1
 returns : tie.Need-returns
 returns c =
     let sift = c .before .before .before .before .before .before .before .before .before .before .sift .ensures in

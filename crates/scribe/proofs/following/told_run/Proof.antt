@@ -10,8 +10,6 @@ use Rattle.scribe.specs.Loops.{Following}
 use Rattle.scribe.proofs.Follows.{following-begins, following-long, following-ends, takes-one, stays-within, following-turns}
 use Rattle.scribe.proofs.following.told_run.Statement.{statement}
 use Rattle.scribe.proofs.following.told_run.Tie as tie
-use Rattle.scribe.proofs.following.told_run.Reads as reads
-use Rattle.scribe.proofs.following.told_run.Lts as lts
 
 abbrev Inv-loop : tie.InvT-loop
 Inv-loop bits run out₀ now₀ so-far₀ at₀ done₀ end out now so-far at done =

@@ -1,0 +1,20 @@
+-- The word of document 01 and its two lines, computed from the definitions.
+-- Assumes nothing.
+use mathlib.Core.Path.{_≡_, refl}
+use mathlib.Core.List.{_++_}
+use Rattle.bits.specs.Bits.{value, toBits, someAbove, howMany}
+use Rattle.runs.specs.Run.{same}
+use Rattle.record.specs.Record.{recordOf}
+use Rattle.ltc.specs.Word.{syncWord, oddZeros}
+use Rattle.ltc.specs.Calls.{readOf}
+use Rattle.reader.specs.Held.{readerWith, unreached}
+use Rattle.reader.specs.Steps.{heardIn, steppedOf}
+use Rattle.reader.specs.Reach.{fed, answers}
+use Rattle.lines.specs.Lines.{decimalWithin, hexDigit, addressText, groupsText, acceptedText, lineOf, endLineOf}
+use Rattle.scribe.specs.Characters.{bitsIn, goesOn}
+use Rattle.scribe.specs.Told.{freshScribe, linesOf, textOf, scribeAfter}
+use Rattle.readout.specs.Sample.{theWord, theTwoLines}
+
+pub two-lines : textOf freshScribe theWord ++ endLineOf (scribeAfter freshScribe theWord .bits) ≡ theTwoLines
+unfolding theWord theTwoLines value toBits someAbove howMany same syncWord oddZeros recordOf readOf readerWith unreached heardIn steppedOf fed answers decimalWithin hexDigit addressText groupsText acceptedText lineOf endLineOf bitsIn goesOn linesOf scribeAfter
+two-lines = refl
