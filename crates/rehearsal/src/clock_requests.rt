@@ -1,8 +1,5 @@
-// Requests for the clock: `number`, `address`, `distance`, `add`.
+// Requests for the clock: `number`, `address`, `distance`, `add`, `fields`, `kind-number`, `kind-fields`.
 use crate::fields::Numbers;
-use crate::fields::Signed;
-use crate::fields::count_at;
-use crate::fields::numbers_at;
 use crate::fields::take_numbers;
 use crate::printing::put_bytes;
 use crate::printing::put_number;
@@ -12,104 +9,153 @@ use crate::printing::put_text;
 use crate::printing::put_unknown;
 use crate::values::address_in;
 use crate::values::byte;
+use crate::values::count;
+use crate::values::day_frame;
 use crate::values::flag;
-use crate::values::second_address_in;
 use clock::Address;
-use clock::DayFrame;
+use clock::Frames24;
+use clock::Frames25;
+use clock::Frames30;
+use clock::Frames30Drop;
 use clock::Numbered;
 use clock::Placed;
 use clock::Span;
 
-// `MODE DROP H M S F H M S F`, the fields of `distance`; `number` and `add` have the first six.
-fn limits() -> [u64; 10] {
-    [255, 1, 255, 255, 255, 255, 255, 255, 255, 255]
+pub enum Call {
+    Number,
+    Address,
+    Distance,
+    Add,
+    Fields,
+    KindNumber,
+    KindFields,
 }
 
-fn number_for(n: &Numbers) -> Numbered {
-    clock::number_of(byte(n[0]), flag(n[1]), address_in(n))
+// What a call told, whichever call it was.
+enum Told {
+    Number(u64),
+    Frames(i32),
+    At(Address),
+    Refused(u8),
+}
+
+fn take_fields(call: Call, line: &[u8], cursor: usize, n: &mut Numbers) -> bool {
+    match call {
+        Call::Number => take_numbers(line, cursor, b"bfbbbb", n),
+        Call::Address => take_numbers(line, cursor, b"bfn", n),
+        Call::Distance => take_numbers(line, cursor, b"bfbbbbbbbb", n),
+        Call::Add => take_numbers(line, cursor, b"bfbbbbc", n),
+        Call::Fields => take_numbers(line, cursor, b"bfbbbb", n),
+        Call::KindNumber => take_numbers(line, cursor, b"kn", n),
+        Call::KindFields => take_numbers(line, cursor, b"kbbbb", n),
+    }
+}
+
+fn number_for(n: &Numbers) -> Told {
+    let numbered = clock::number_of(byte(n[0]), flag(n[1]), address_in(n, 2));
+    match numbered {
+        Numbered::Refused(number) => Told::Refused(number),
+        Numbered::Number(frame) => Told::Number(frame.0 as u64),
+    }
+}
+
+fn distance_for(n: &Numbers) -> Told {
+    let span = clock::distance(byte(n[0]), flag(n[1]), address_in(n, 2), address_in(n, 6));
+    match span {
+        Span::Refused(number) => Told::Refused(number),
+        Span::Frames(frames) => Told::Frames(frames),
+    }
 }
 
 fn address_for(n: &Numbers) -> Placed {
-    let frame = (n[2] % 0x1_0000_0000) as u32;
-    clock::address_of(byte(n[0]), flag(n[1]), DayFrame(frame))
+    clock::address_of(byte(n[0]), flag(n[1]), day_frame(n[2]))
 }
 
-fn distance_for(n: &Numbers) -> Span {
-    clock::distance(byte(n[0]), flag(n[1]), address_in(n), second_address_in(n))
+fn sum_for(n: &Numbers) -> Placed {
+    clock::add(byte(n[0]), flag(n[1]), address_in(n, 2), count(n[6]))
 }
 
-fn sum_for(n: &Numbers, frames: i32) -> Placed {
-    clock::add(byte(n[0]), flag(n[1]), address_in(n), frames)
+fn fields_for(n: &Numbers) -> Placed {
+    let a = address_in(n, 2);
+    let frames = a.frames;
+    clock::address_from(
+        byte(n[0]),
+        flag(n[1]),
+        a.hours,
+        a.minutes,
+        a.seconds,
+        frames,
+    )
 }
 
-fn put_numbered(out: &mut [u8], at: usize, numbered: Numbered) -> usize {
-    match numbered {
-        Numbered::Refused(number) => put_refused(out, at, number),
-        Numbered::Number(frame) => {
-            let next = put_text(out, at, b"number");
-            put_number(out, next, frame.0 as u64)
-        }
+fn kind_number_for(n: &Numbers) -> Placed {
+    let kind = n[0];
+    let frame = day_frame(n[1]);
+    match kind {
+        0 => Frames24::from_number(frame),
+        1 => Frames25::from_number(frame),
+        2 => Frames30::from_number(frame),
+        _ => Frames30Drop::from_number(frame),
     }
 }
 
-fn put_span(out: &mut [u8], at: usize, span: Span) -> usize {
-    match span {
-        Span::Refused(number) => put_refused(out, at, number),
-        Span::Frames(frames) => {
-            let next = put_text(out, at, b"distance");
-            put_signed(out, next, frames)
-        }
+fn kind_fields_for(n: &Numbers) -> Placed {
+    let kind = n[0];
+    let a = address_in(n, 1);
+    let frames = a.frames;
+    match kind {
+        0 => Frames24::from_fields(a.hours, a.minutes, a.seconds, frames),
+        1 => Frames25::from_fields(a.hours, a.minutes, a.seconds, frames),
+        2 => Frames30::from_fields(a.hours, a.minutes, a.seconds, frames),
+        _ => Frames30Drop::from_fields(a.hours, a.minutes, a.seconds, frames),
     }
 }
 
-fn put_address(out: &mut [u8], at: usize, address: Address) -> usize {
-    let next = put_text(out, at, b"address");
+fn place_told(placed: Placed) -> Told {
+    match placed {
+        Placed::Refused(number) => Told::Refused(number),
+        Placed::At(address) => Told::At(address),
+    }
+}
+
+fn told_for(call: Call, n: &Numbers) -> Told {
+    match call {
+        Call::Number => number_for(n),
+        Call::Address => place_told(address_for(n)),
+        Call::Distance => distance_for(n),
+        Call::Add => place_told(sum_for(n)),
+        Call::Fields => place_told(fields_for(n)),
+        Call::KindNumber => place_told(kind_number_for(n)),
+        Call::KindFields => place_told(kind_fields_for(n)),
+    }
+}
+
+fn put_address(out: &mut [u8], address: Address) -> usize {
+    let next = put_text(out, 0, b"address");
     let frames = address.frames;
     let fields = [address.hours, address.minutes, address.seconds, frames.0];
     put_bytes(out, next, &fields)
 }
 
-fn put_placed(out: &mut [u8], at: usize, placed: Placed) -> usize {
-    match placed {
-        Placed::Refused(number) => put_refused(out, at, number),
-        Placed::At(address) => put_address(out, at, address),
+fn put_told(out: &mut [u8], told: Told) -> usize {
+    match told {
+        Told::Number(number) => {
+            let next = put_text(out, 0, b"number");
+            put_number(out, next, number)
+        }
+        Told::Frames(frames) => {
+            let next = put_text(out, 0, b"distance");
+            put_signed(out, next, frames)
+        }
+        Told::At(address) => put_address(out, address),
+        Told::Refused(number) => put_refused(out, number),
     }
 }
 
-pub fn answer_number(line: &[u8], cursor: usize, out: &mut [u8], at: usize) -> usize {
-    let limits = limits();
+pub fn answer_call(call: Call, line: &[u8], cursor: usize, out: &mut [u8]) -> usize {
     let mut n = [0u64; 23];
-    if take_numbers(line, cursor, &limits[0..6], &mut n) {
-        return put_numbered(out, at, number_for(&n));
+    if take_fields(call, line, cursor, &mut n) {
+        return put_told(out, told_for(call, &n));
     }
-    put_unknown(out, at)
-}
-
-pub fn answer_address(line: &[u8], cursor: usize, out: &mut [u8], at: usize) -> usize {
-    let limits = [255, 1, 0xffff_ffff];
-    let mut n = [0u64; 23];
-    if take_numbers(line, cursor, &limits, &mut n) {
-        return put_placed(out, at, address_for(&n));
-    }
-    put_unknown(out, at)
-}
-
-pub fn answer_distance(line: &[u8], cursor: usize, out: &mut [u8], at: usize) -> usize {
-    let limits = limits();
-    let mut n = [0u64; 23];
-    if take_numbers(line, cursor, &limits, &mut n) {
-        return put_span(out, at, distance_for(&n));
-    }
-    put_unknown(out, at)
-}
-
-pub fn answer_add(line: &[u8], cursor: usize, out: &mut [u8], at: usize) -> usize {
-    let limits = limits();
-    let mut n = [0u64; 23];
-    let next = numbers_at(line, cursor, &limits[0..6], &mut n);
-    let count = count_at(line, next);
-    match count {
-        Signed::Unsound => put_unknown(out, at),
-        Signed::Count(frames) => put_placed(out, at, sum_for(&n, frames)),
-    }
+    put_unknown(out)
 }

@@ -19,11 +19,6 @@ pub enum Parsed {
     Unsound,
 }
 
-pub enum Signed {
-    Count(i32),
-    Unsound,
-}
-
 // A number, and the cursor past its field.
 pub struct Taken {
     pub value: u64,
@@ -116,11 +111,49 @@ pub fn number_in(text: &[u8], base: u64, most: u64) -> Parsed {
     Parsed::Value(value)
 }
 
-pub fn number_at(line: &[u8], cursor: usize, most: u64) -> Taken {
+// A request's form has a letter for each of its numbers: b for a byte, c for COUNT, f for a flag, k for KIND, l for LENGTH, n for N, and
+// s for START and LIMIT.
+fn limit_of(letter: u8) -> u64 {
+    match letter {
+        b'f' => 1,
+        b'k' => 3,
+        b'b' => 255,
+        b'l' => 400,
+        b'n' => 0xffff_ffff,
+        _ => 0xffff_ffff_ffff_ffff,
+    }
+}
+
+// "COUNT is any signed 32-bit number": it is kept as how far it is above the lowest of them.
+fn count_in(text: &[u8]) -> Parsed {
+    if 0 < text.len() {
+        if text[0] == b'-' {
+            let back = number_in(&text[1..], 10, 0x8000_0000);
+            return match back {
+                Parsed::Value(frames) => Parsed::Value(0x8000_0000 - frames % 0x8000_0001),
+                Parsed::Unsound => Parsed::Unsound,
+            };
+        }
+    }
+    let on = number_in(text, 10, 0x7fff_ffff);
+    match on {
+        Parsed::Value(frames) => Parsed::Value(0x8000_0000 + frames % 0x8000_0000),
+        Parsed::Unsound => Parsed::Unsound,
+    }
+}
+
+fn value_in(text: &[u8], letter: u8) -> Parsed {
+    if letter == b'c' {
+        return count_in(text);
+    }
+    number_in(text, 10, limit_of(letter))
+}
+
+pub fn number_at(line: &[u8], cursor: usize, letter: u8) -> Taken {
     let field = field_at(line, cursor);
     let start = field.start;
     let end = field.end;
-    let found = number_in(&line[start..end], 10, most);
+    let found = value_in(&line[start..end], letter);
     match found {
         Parsed::Value(value) => Taken {
             value,
@@ -133,14 +166,14 @@ pub fn number_at(line: &[u8], cursor: usize, most: u64) -> Taken {
     }
 }
 
-// The numbers of the next fields, one within each limit, and the cursor past them.
-pub fn numbers_at(line: &[u8], cursor: usize, limits: &[u64], numbers: &mut Numbers) -> usize {
+// The numbers of the next fields, and the cursor past them.
+fn numbers_at(line: &[u8], cursor: usize, form: &[u8], numbers: &mut Numbers) -> usize {
     let mut at = cursor;
-    for i in 0..limits.len() {
+    for i in 0..form.len() {
         if 23 <= i {
             return NOWHERE;
         }
-        let taken = number_at(line, at, limits[i]);
+        let taken = number_at(line, at, form[i]);
         numbers[i] = taken.value;
         at = taken.next;
     }
@@ -148,43 +181,6 @@ pub fn numbers_at(line: &[u8], cursor: usize, limits: &[u64], numbers: &mut Numb
 }
 
 // The same, and whether they are the rest of the line.
-pub fn take_numbers(line: &[u8], cursor: usize, limits: &[u64], numbers: &mut Numbers) -> bool {
-    is_end(line, numbers_at(line, cursor, limits, numbers))
-}
-
-fn on_by(frames: u64) -> i32 {
-    (frames % 0x8000_0000) as i32
-}
-
-fn back_by(frames: u64) -> i32 {
-    if frames == 0 {
-        return 0;
-    }
-    !on_by(frames - 1)
-}
-
-// "COUNT is any signed 32-bit number".
-fn count_in(text: &[u8]) -> Signed {
-    if 0 < text.len() {
-        if text[0] == b'-' {
-            let back = number_in(&text[1..], 10, 0x8000_0000);
-            return match back {
-                Parsed::Value(frames) => Signed::Count(back_by(frames)),
-                Parsed::Unsound => Signed::Unsound,
-            };
-        }
-    }
-    let on = number_in(text, 10, 0x7fff_ffff);
-    match on {
-        Parsed::Value(frames) => Signed::Count(on_by(frames)),
-        Parsed::Unsound => Signed::Unsound,
-    }
-}
-
-// The count that is the rest of the line.
-pub fn count_at(line: &[u8], cursor: usize) -> Signed {
-    if cursor <= line.len() {
-        return count_in(&line[cursor..]);
-    }
-    Signed::Unsound
+pub fn take_numbers(line: &[u8], cursor: usize, form: &[u8], numbers: &mut Numbers) -> bool {
+    is_end(line, numbers_at(line, cursor, form, numbers))
 }

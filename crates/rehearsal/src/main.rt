@@ -1,14 +1,18 @@
 // The rehearsal: answers each line of its input, a request for the clock, for a code word or for the reader, by a line of its output.
-// Here are the pieces and lines of the input, and the pieces of the output.
+// Here are the pieces and lines of the input, and the writing of the answers.
 //
 // requests         which request a line is
-// clock_requests   number, address, distance, add
+// clock_requests   the calls of the clock, and the constructors of its four kinds
 // word_requests    reads and writes of linear words, lines and packets
 // reader_requests  a step, a block
 // fields           taking a line apart, and the numbers in it
 // elements         the runs in it
 // values           from the numbers of a request to what the calls take
 // printing         words, numbers, records and runs into the answers
+ghost use mathlib.Core.Path.{_≡_};
+ghost use mathlib.Core.Bool.{true};
+ghost use Prim.Native.Nat.{_<_};
+
 mod clock_requests;
 mod elements;
 mod fields;
@@ -24,132 +28,122 @@ use printing::put;
 use printing::put_unknown;
 use requests::answer;
 
-// No answer is as long as this: the longest, to an `atc-write` into 400 words that is refused, has 1,610 characters.
+// The longest answer, to an `atc-write` into 400 words that is refused, has 1,610 characters and a line feed.
 const ROOM: usize = 2048;
 
-// What is kept from byte to byte: how many characters the line has so far, how many places of the answers are filled, and whether to
-// go on.
+// How many characters the line has so far, and whether the output still takes answers.
 pub struct Progress {
     pub length: usize,
-    pub filled: usize,
-    pub going: bool,
+    pub open: bool,
 }
 
-fn flush(out: &[u8], filled: usize) -> bool {
-    if filled <= out.len() {
-        return io::write_all(STDOUT_FILENO, &out[0..filled]);
+// How the reading ended: the characters of a last line that no line feed ends, how many pieces were answered, how many bytes the last
+// read brought, and whether the output still takes answers.
+pub struct End {
+    pub length: usize,
+    pub pieces: u64,
+    pub came: usize,
+    pub open: bool,
+}
+
+// What came past the end of `line` was not kept: a line so long is no request.
+fn answer_kept(line: &[u8], length: usize, out: &mut [u8]) -> usize {
+    if line.len() < length {
+        return put_unknown(out);
+    }
+    answer(&line[0..length], out)
+}
+
+// Each answer is written by itself, so that it is there before the next line comes. Whether the output took it.
+fn answer_line(line: &[u8], length: usize) -> bool {
+    let mut out = [0u8; ROOM];
+    let end = answer_kept(line, length, &mut out);
+    let next = put(&mut out, end, b'\n');
+    if next <= ROOM {
+        return io::write_all(STDOUT_FILENO, &out[0..next]);
     }
     false
 }
 
-// Writes the answers out where the next might not fit.
-fn make_room(out: &[u8], filled: usize) -> Progress {
-    if filled < out.len() {
-        if ROOM < out.len() - filled {
-            return Progress {
-                length: 0,
-                filled,
-                going: true,
-            };
-        }
-    }
-    Progress {
-        length: 0,
-        filled: 0,
-        going: flush(out, filled),
-    }
-}
-
-// The answer to a line of this length. What came past the end of `line` was not kept: a line so long is no request.
-fn answer_kept(line: &[u8], out: &mut [u8], length: usize, filled: usize) -> usize {
-    if line.len() < length {
-        return put_unknown(out, filled);
-    }
-    answer(&line[0..length], out, filled)
-}
-
-fn answer_line(line: &[u8], out: &mut [u8], length: usize, filled: usize) -> Progress {
-    let end = answer_kept(line, out, length, filled);
-    let next = put(out, end, b'\n');
-    make_room(out, next)
-}
-
-fn take_byte(byte: u8, line: &mut [u8], out: &mut [u8], before: Progress) -> Progress {
-    let length = before.length;
-    let filled = before.filled;
+fn take_byte(byte: u8, line: &mut [u8], length: usize) -> Progress {
     if byte == b'\n' {
-        return answer_line(line, out, length, filled);
+        return Progress {
+            length: 0,
+            open: answer_line(line, length),
+        };
     }
     if length < line.len() {
         line[length] = byte;
         return Progress {
             length: length + 1,
-            filled,
-            going: true,
+            open: true,
         };
     }
     Progress {
         length: line.len() + 1,
-        filled,
-        going: true,
+        open: true,
     }
 }
 
-fn take_bytes(piece: &[u8], line: &mut [u8], out: &mut [u8], before: Progress) -> Progress {
-    let mut now = before;
+fn take_bytes(piece: &[u8], line: &mut [u8], length: usize) -> Progress {
+    let mut now = Progress { length, open: true };
     for i in 0..piece.len() {
-        now = take_byte(piece[i], line, out, now);
-        if !now.going {
+        now = take_byte(piece[i], line, now.length);
+        if !now.open {
             return now;
         }
     }
     now
 }
 
-// Reads one piece of the input and answers its lines.
-fn take_piece(line: &mut [u8], out: &mut [u8], before: Progress) -> Progress {
-    let mut piece = io::large_buffer();
-    let n = io::read_full(STDIN_FILENO, &mut piece);
-    if n == 0 {
-        return Progress {
-            length: before.length,
-            filled: before.filled,
-            going: false,
-        };
-    }
-    take_bytes(&piece[0..n], line, out, before)
-}
-
-// A proved loop has to end, and nothing says that an input does: it counts down, from more pieces than any input has.
-fn take_all(line: &mut [u8], out: &mut [u8]) -> Progress {
-    let mut now = Progress {
-        length: 0,
-        filled: 0,
-        going: true,
-    };
-    let mut left = u64::MAX;
-    while 0 < left {
-        now = take_piece(line, out, now);
-        if !now.going {
-            return now;
+// Reads what is there, and answers the lines that end in it before it reads on: a read that brings less than a piece ends nothing. A
+// proved loop has to end, and nothing says that an input does: so it counts its pieces, and stops by itself only after more than any
+// input has.
+fn take_all(line: &mut [u8]) -> End
+    ensures { λ r. ⌜ (0 < r .came → r .open ≡ true → r .pieces ≡ 18446744073709551615) ⌝ }
+{
+    let mut piece = io::buffer();
+    let mut length: usize = 0;
+    let mut came: usize = 0;
+    let mut pieces: u64 = 0;
+    while pieces < u64::MAX {
+        let got = libc::read(STDIN_FILENO, &mut piece);
+        came = io::count(got, &piece);
+        if came == 0 {
+            return End {
+                length,
+                pieces,
+                came,
+                open: true,
+            };
         }
-        left -= 1;
+        let now = take_bytes(&piece[0..came], line, length);
+        length = now.length;
+        if !now.open {
+            return End {
+                length,
+                pieces,
+                came,
+                open: false,
+            };
+        }
+        pieces += 1;
     }
-    now
+    End {
+        length,
+        pieces,
+        came,
+        open: true,
+    }
 }
 
 fn main() {
     // "a line has at most 2,000 characters"
     let mut line = [0u8; 2000];
-    let mut out = io::large_buffer();
-    let last = take_all(&mut line, &mut out);
-    let length = last.length;
-    let filled = last.filled;
+    let end = take_all(&mut line);
+    let length = end.length;
     // A last line that no line feed ends.
     if 0 < length {
-        let end = answer_line(&line, &mut out, length, filled);
-        flush(&out, end.filled);
-        return;
+        answer_line(&line, length);
     }
-    flush(&out, filled);
 }

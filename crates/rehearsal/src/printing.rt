@@ -1,5 +1,5 @@
-// What answers are made of, put at the end of what is filled. Each call answers where the next byte goes; a field brings the space
-// before it.
+// What answers are made of. Each call answers where the next byte goes; what begins an answer is put at its start, and a field brings
+// the space before it.
 ghost use Prim.Native.Nat.{_<_};
 use clock::Flag;
 use record::Record;
@@ -22,11 +22,11 @@ pub fn put_text(out: &mut [u8], at: usize, text: &[u8]) -> usize {
 }
 
 // "A line that is no request gets `unknown`."
-pub fn put_unknown(out: &mut [u8], at: usize) -> usize {
-    put_text(out, at, b"unknown")
+pub fn put_unknown(out: &mut [u8]) -> usize {
+    put_text(out, 0, b"unknown")
 }
 
-fn put_digits(out: &mut [u8], at: usize, number: u64) -> usize {
+pub fn put_digits(out: &mut [u8], at: usize, number: u64) -> usize {
     let mut digits = [0u8; 20];
     let count = io::decimal(number, &mut digits);
     put_text(out, at, &digits[0..count])
@@ -62,8 +62,8 @@ pub fn put_signed(out: &mut [u8], at: usize, number: i32) -> usize {
     put_number(out, at, size)
 }
 
-pub fn put_refused(out: &mut [u8], at: usize, number: u8) -> usize {
-    let next = put_text(out, at, b"refused");
+pub fn put_refused(out: &mut [u8], number: u8) -> usize {
+    let next = put_text(out, 0, b"refused");
     put_number(out, next, number as u64)
 }
 
@@ -117,8 +117,8 @@ pub fn put_byte(out: &mut [u8], at: usize, byte: u8) -> usize {
     put_number(out, at, byte as u64)
 }
 
-pub fn put_record(out: &mut [u8], at: usize, record: Record) -> usize {
-    let next = put_text(out, at, b"record");
+pub fn put_record(out: &mut [u8], record: Record) -> usize {
+    let next = put_text(out, 0, b"record");
     let fields = fields_of(record);
     put_bytes(out, next, &fields)
 }

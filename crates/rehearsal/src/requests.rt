@@ -1,8 +1,6 @@
 // Which request a line is, and its answer.
-use crate::clock_requests::answer_add;
-use crate::clock_requests::answer_address;
-use crate::clock_requests::answer_distance;
-use crate::clock_requests::answer_number;
+use crate::clock_requests::Call;
+use crate::clock_requests::answer_call;
 use crate::fields::is_same;
 use crate::fields::part_end;
 use crate::printing::put_unknown;
@@ -15,10 +13,7 @@ use crate::word_requests::answer_words_read;
 use crate::word_requests::answer_words_write;
 
 pub enum Request {
-    Number,
-    Address,
-    Distance,
-    Add,
+    Clock(Call),
     BitsRead(Carrier),
     WordsRead,
     BitsWrite(Carrier),
@@ -50,43 +45,53 @@ fn carrier_request(name: &[u8]) -> Request {
     Request::Unknown
 }
 
-fn request_named(name: &[u8]) -> Request {
+fn clock_request(name: &[u8]) -> Request {
     if is_same(name, b"number") {
-        return Request::Number;
+        return Request::Clock(Call::Number);
     }
     if is_same(name, b"address") {
-        return Request::Address;
+        return Request::Clock(Call::Address);
     }
     if is_same(name, b"distance") {
-        return Request::Distance;
+        return Request::Clock(Call::Distance);
     }
     if is_same(name, b"add") {
-        return Request::Add;
+        return Request::Clock(Call::Add);
     }
+    if is_same(name, b"fields") {
+        return Request::Clock(Call::Fields);
+    }
+    if is_same(name, b"kind-number") {
+        return Request::Clock(Call::KindNumber);
+    }
+    if is_same(name, b"kind-fields") {
+        return Request::Clock(Call::KindFields);
+    }
+    carrier_request(name)
+}
+
+fn request_named(name: &[u8]) -> Request {
     if is_same(name, b"step") {
         return Request::Step;
     }
     if is_same(name, b"block") {
         return Request::Block;
     }
-    carrier_request(name)
+    clock_request(name)
 }
 
-pub fn answer(line: &[u8], out: &mut [u8], at: usize) -> usize {
+pub fn answer(line: &[u8], out: &mut [u8]) -> usize {
     let end = part_end(line, 0, b' ');
     let cursor = end + 1;
     let asked = request_named(&line[0..end]);
     match asked {
-        Request::Number => answer_number(line, cursor, out, at),
-        Request::Address => answer_address(line, cursor, out, at),
-        Request::Distance => answer_distance(line, cursor, out, at),
-        Request::Add => answer_add(line, cursor, out, at),
-        Request::BitsRead(carrier) => answer_bits_read(carrier, line, cursor, out, at),
-        Request::WordsRead => answer_words_read(line, cursor, out, at),
-        Request::BitsWrite(carrier) => answer_bits_write(carrier, line, cursor, out, at),
-        Request::WordsWrite => answer_words_write(line, cursor, out, at),
-        Request::Step => answer_step(line, cursor, out, at),
-        Request::Block => answer_block(line, cursor, out, at),
-        Request::Unknown => put_unknown(out, at),
+        Request::Clock(call) => answer_call(call, line, cursor, out),
+        Request::BitsRead(carrier) => answer_bits_read(carrier, line, cursor, out),
+        Request::WordsRead => answer_words_read(line, cursor, out),
+        Request::BitsWrite(carrier) => answer_bits_write(carrier, line, cursor, out),
+        Request::WordsWrite => answer_words_write(line, cursor, out),
+        Request::Step => answer_step(line, cursor, out),
+        Request::Block => answer_block(line, cursor, out),
+        Request::Unknown => put_unknown(out),
     }
 }

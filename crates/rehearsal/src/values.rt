@@ -1,6 +1,8 @@
 // From the numbers of a request to the values that the calls take: each number was found within the limit of its field.
+ghost use Prim.Native.Nat.{_<_};
 use crate::fields::Numbers;
 use clock::Address;
+use clock::DayFrame;
 use clock::Flag;
 use clock::SecondFrame;
 use record::Record;
@@ -16,23 +18,28 @@ pub fn flag(number: u64) -> Flag {
     Flag::Yes
 }
 
-// `H M S F`, from the third number of a request for the clock on.
-pub fn address_in(n: &Numbers) -> Address {
-    Address {
-        hours: byte(n[2]),
-        minutes: byte(n[3]),
-        seconds: byte(n[4]),
-        frames: SecondFrame(byte(n[5])),
-    }
+pub fn day_frame(number: u64) -> DayFrame {
+    DayFrame((number % 0x1_0000_0000) as u32)
 }
 
-// The second `H M S F` of `distance`.
-pub fn second_address_in(n: &Numbers) -> Address {
+// A number below 0 is the bits of one less than its size, turned over.
+pub fn count(above_lowest: u64) -> i32 {
+    if above_lowest < 0x8000_0000 {
+        let less = 0x7fff_ffff - above_lowest;
+        return !(less as i32);
+    }
+    (above_lowest % 0x8000_0000) as i32
+}
+
+// `H M S F`, from this number of a request on.
+pub fn address_in(n: &Numbers, first: usize) -> Address
+    requires { ⌜ first < 20 ⌝ }
+{
     Address {
-        hours: byte(n[6]),
-        minutes: byte(n[7]),
-        seconds: byte(n[8]),
-        frames: SecondFrame(byte(n[9])),
+        hours: byte(n[first]),
+        minutes: byte(n[first + 1]),
+        seconds: byte(n[first + 2]),
+        frames: SecondFrame(byte(n[first + 3])),
     }
 }
 

@@ -60,141 +60,93 @@ fn write_bits(carrier: Carrier, mode: u8, record: Record, start: usize, run: &mu
     }
 }
 
-fn put_unpacked(out: &mut [u8], at: usize, unpacked: Unpacked) -> usize {
+fn put_unpacked(out: &mut [u8], unpacked: Unpacked) -> usize {
     match unpacked {
-        Unpacked::Refused(number) => put_refused(out, at, number),
-        Unpacked::Holds(record) => put_record(out, at, record),
+        Unpacked::Refused(number) => put_refused(out, number),
+        Unpacked::Holds(record) => put_record(out, record),
     }
 }
 
-fn put_packet(out: &mut [u8], at: usize, packet: Packet) -> usize {
+fn put_packet(out: &mut [u8], packet: Packet) -> usize {
     match packet {
-        Packet::Refused(number) => put_refused(out, at, number),
+        Packet::Refused(number) => put_refused(out, number),
         Packet::Holds(contents) => {
             let record = contents.record;
-            let after_record = put_record(out, at, record);
+            let after_record = put_record(out, record);
             let after_type = put_byte(out, after_record, contents.payload_type);
             put_byte(out, after_type, contents.second)
         }
     }
 }
 
-fn put_written(out: &mut [u8], at: usize, refusal: u8) -> usize {
+fn put_written(out: &mut [u8], refusal: u8) -> usize {
     if refusal == 0 {
-        return put_text(out, at, b"wrote");
+        return put_text(out, 0, b"wrote");
     }
-    put_refused(out, at, refusal)
+    put_refused(out, refusal)
 }
 
 // "RUN is the whole lent run after a write, refused or not".
-fn put_bits_written(
-    carrier: Carrier,
-    n: &Numbers,
-    run: &mut [u8],
-    out: &mut [u8],
-    at: usize,
-) -> usize {
+fn put_bits_written(carrier: Carrier, n: &Numbers, run: &mut [u8], out: &mut [u8]) -> usize {
     let start = n[1] as usize;
     let refusal = write_bits(carrier, byte(n[0]), record_in(n), start, run);
-    let next = put_written(out, at, refusal);
+    let next = put_written(out, refusal);
     put_bits(out, next, run)
 }
 
-fn put_words_written(n: &Numbers, run: &mut [u16], out: &mut [u8], at: usize) -> usize {
+fn put_words_written(n: &Numbers, run: &mut [u16], out: &mut [u8]) -> usize {
     let start = n[1] as usize;
     let record = record_in(n);
     let written = atc::write(byte(n[0]), record, byte(n[21]), byte(n[22]), start, run);
-    let next = put_written(out, at, atc_refusal(written));
+    let next = put_written(out, atc_refusal(written));
     put_words(out, next, run)
 }
 
-pub fn answer_bits_read(
-    carrier: Carrier,
-    line: &[u8],
-    cursor: usize,
-    out: &mut [u8],
-    at: usize,
-) -> usize {
-    let mode = number_at(line, cursor, 255);
+pub fn answer_bits_read(carrier: Carrier, line: &[u8], cursor: usize, out: &mut [u8]) -> usize {
+    let mode = number_at(line, cursor, b'b');
     let mut run = [0u8; 2000];
     let taken = bits_at(line, mode.next, &mut run);
     let length = taken.length;
     if is_end(line, taken.next) {
         let unpacked = read_bits(carrier, byte(mode.value), &run[0..length]);
-        return put_unpacked(out, at, unpacked);
+        return put_unpacked(out, unpacked);
     }
-    put_unknown(out, at)
+    put_unknown(out)
 }
 
-pub fn answer_words_read(line: &[u8], cursor: usize, out: &mut [u8], at: usize) -> usize {
-    let mode = number_at(line, cursor, 255);
+pub fn answer_words_read(line: &[u8], cursor: usize, out: &mut [u8]) -> usize {
+    let mode = number_at(line, cursor, b'b');
     // A line of 2,000 characters has fewer words than this.
     let mut run = [0u16; 500];
     let taken = words_at(line, mode.next, &mut run);
     let length = taken.length;
     if is_end(line, taken.next) {
-        return put_packet(out, at, atc::read(byte(mode.value), &run[0..length]));
+        return put_packet(out, atc::read(byte(mode.value), &run[0..length]));
     }
-    put_unknown(out, at)
+    put_unknown(out)
 }
 
-// `MODE START LENGTH RECORD TYPE SECOND`, the fields of `atc-write`; the other writes have all but the last two.
-fn limits() -> [u64; 23] {
-    [
-        255,
-        0xffff_ffff_ffff_ffff,
-        400,
-        255,
-        255,
-        255,
-        255,
-        1,
-        1,
-        1,
-        1,
-        1,
-        1,
-        255,
-        255,
-        255,
-        255,
-        255,
-        255,
-        255,
-        255,
-        255,
-        255,
-    ]
-}
-
-pub fn answer_bits_write(
-    carrier: Carrier,
-    line: &[u8],
-    cursor: usize,
-    out: &mut [u8],
-    at: usize,
-) -> usize {
-    let limits = limits();
+// `MODE START LENGTH RECORD`, which TYPE and SECOND follow in `atc-write`.
+pub fn answer_bits_write(carrier: Carrier, line: &[u8], cursor: usize, out: &mut [u8]) -> usize {
     let mut n = [0u64; 23];
     let mut run = [7u8; 400];
-    if take_numbers(line, cursor, &limits[0..21], &mut n) {
+    if take_numbers(line, cursor, b"bslbbbbffffffbbbbbbbb", &mut n) {
         let length = n[2] as usize;
         if length <= 400 {
-            return put_bits_written(carrier, &n, &mut run[0..length], out, at);
+            return put_bits_written(carrier, &n, &mut run[0..length], out);
         }
     }
-    put_unknown(out, at)
+    put_unknown(out)
 }
 
-pub fn answer_words_write(line: &[u8], cursor: usize, out: &mut [u8], at: usize) -> usize {
-    let limits = limits();
+pub fn answer_words_write(line: &[u8], cursor: usize, out: &mut [u8]) -> usize {
     let mut n = [0u64; 23];
     let mut run = [0x777u16; 400];
-    if take_numbers(line, cursor, &limits, &mut n) {
+    if take_numbers(line, cursor, b"bslbbbbffffffbbbbbbbbbb", &mut n) {
         let length = n[2] as usize;
         if length <= 400 {
-            return put_words_written(&n, &mut run[0..length], out, at);
+            return put_words_written(&n, &mut run[0..length], out);
         }
     }
-    put_unknown(out, at)
+    put_unknown(out)
 }

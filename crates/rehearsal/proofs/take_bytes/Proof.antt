@@ -8,10 +8,10 @@ use Rattle.rehearsal.proofs.take_bytes.Statement.{statement}
 use Rattle.rehearsal.proofs.take_bytes.Tie as tie
 
 abbrev Inv-loop : tie.InvT-loop
-Inv-loop piece line₀ out₀ now₀ i₀ i-end line out now i = (i ≤ length piece) × ((length line ≡ length line₀) × (length out ≡ length out₀))
+Inv-loop piece line₀ kept now₀ i₀ i-end line now i = (i ≤ length piece) × (length line ≡ length line₀)
 
 abbrev μ-loop : tie.MeasureT-loop
-μ-loop piece line₀ out₀ now₀ i₀ i-end line out now i = length piece - i
+μ-loop piece line₀ kept now₀ i₀ i-end line now i = length piece - i
 
 loop-holds : tie.Need-loop-holds Inv-loop μ-loop
 loop-holds c = search needs
@@ -25,9 +25,6 @@ take-byte-requires c κs = search needs
 same-length : tie.Need-same-length Inv-loop μ-loop
 same-length c = search needs
 
-same-length-2 : tie.Need-same-length-2 Inv-loop μ-loop
-same-length-2 c = search needs
-
 returns : tie.Need-returns Inv-loop μ-loop
 returns c = search needs
 
@@ -40,11 +37,8 @@ loop-less c = search needs
 loop-again : tie.Need-loop-again Inv-loop μ-loop
 loop-again c = search needs
 
-same-length-3 : tie.Need-same-length-3 Inv-loop μ-loop
-same-length-3 c = search needs
-
-same-length-4 : tie.Need-same-length-4 Inv-loop μ-loop
-same-length-4 c = search needs
+same-length-2 : tie.Need-same-length-2 Inv-loop μ-loop
+same-length-2 c = search needs
 
 returns-2 : tie.Need-returns-2 Inv-loop μ-loop
 returns-2 c = search needs
@@ -59,11 +53,9 @@ take-bytes-spec =
     shared-slice-read-take-byte
     take-byte-requires
     same-length
-    same-length-2
     returns
     add-i
     loop-less
     loop-again
-    same-length-3
-    same-length-4
+    same-length-2
     returns-2)

@@ -1,4 +1,4 @@
--- `rehearsal::fields::numbers_at` is safe and ends. The measure is how many limits are left.
+-- `rehearsal::fields::numbers_at` is safe and ends. The measure is how many letters of the form are left.
 -- Assumes nothing.
 use Prim.Native.Nat.{_-_, _≤_}
 use lib.ListN.{length}
@@ -7,19 +7,16 @@ use Rattle.rehearsal.proofs.fields.numbers_at.Statement.{statement}
 use Rattle.rehearsal.proofs.fields.numbers_at.Tie as tie
 
 abbrev Inv-loop : tie.InvT-loop
-Inv-loop line cursor limits numbers₀ at₀ i₀ i-end numbers at i = i ≤ length limits
+Inv-loop line cursor form numbers₀ at₀ i₀ i-end numbers at i = i ≤ length form
 
 abbrev μ-loop : tie.MeasureT-loop
-μ-loop line cursor limits numbers₀ at₀ i₀ i-end numbers at i = length limits - i
+μ-loop line cursor form numbers₀ at₀ i₀ i-end numbers at i = length form - i
 
 loop-holds : tie.Need-loop-holds Inv-loop μ-loop
 loop-holds c = search needs
 
 returns : tie.Need-returns Inv-loop μ-loop
 returns c = search needs
-
-mul-number-at : tie.Need-mul-number-at Inv-loop μ-loop
-mul-number-at c = search needs
 
 shared-slice-read-number-at : tie.Need-shared-slice-read-number-at Inv-loop μ-loop
 shared-slice-read-number-at c = search needs
@@ -53,7 +50,6 @@ numbers-at-spec =
     μ-loop
     loop-holds
     returns
-    mul-number-at
     shared-slice-read-number-at
     number-at-requires
     mul-numbers
