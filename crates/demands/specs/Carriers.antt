@@ -20,7 +20,7 @@ use Rattle.atc.specs.declared.types.Packet.the-variants.{Holds as Carries}
 use Rattle.atc.specs.declared.types.Written.the-variants.{Done as AtcDone, Refused as AtcRefused}
 use Rattle.demands.specs.Records.{Acceptable}
 
--- What the types of a carrier's calls ensure of a content; what it takes, by mode; and what its calls promise: that a write of a content from a
+-- What is needed of the bounds that the types of a carrier's calls set; what it takes, by mode; and what its calls promise: that a write of a content from a
 -- start in a lent run is done; that it is refused with a number; the run as the write leaves it; and that a read of some elements gives a content.
 pub record Carrier (Content : Type 0) : Type 1 where
   pub size : ℕ

@@ -8,5 +8,6 @@
 // proofs/Demand2     frame numbers and addresses; words, lines and packets, read or written
 // proofs/Demand3     each code word is reported, as itself, at its 80th bit
 // proofs/Rehearsed   the bars, under one claim
+// proofs/Accepted    a record is clear of its refusals exactly where it is acceptable
 //
 // What else demand 1 asks for is in the promises of the calls themselves: docs/PROMISES.md says where.

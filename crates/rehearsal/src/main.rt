@@ -1,4 +1,5 @@
 // The rehearsal: answers each line of its input, a request for the clock, for a code word or for the reader, by a line of its output.
+// What is quoted in this crate is docs/REHEARSAL.md.
 // Here are the pieces and lines of the input, and the writing of the answers.
 //
 // requests         which request a line is

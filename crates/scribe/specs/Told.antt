@@ -49,17 +49,17 @@ leftAfter left came more = cond (ltb 0 came && more) (left - came) 0
 -- the scribe after a piece: its reader has had the bits one by one
 unfoldable pub scribeAfter : Scribe → List ℕ → Scribe
 scribeAfter before characters =
-    let heard = counted before characters in
+    let came = counted before characters in
     record {
-      reader = fed (before .reader) (bitsIn heard);
-      bits = (before .bits + length (bitsIn heard)) % 2 ^ 64;
-      left = leftAfter (before .left) (length heard) (goesOn heard);
+      reader = fed (before .reader) (bitsIn came);
+      bits = (before .bits + length (bitsIn came)) % 2 ^ 64;
+      left = leftAfter (before .left) (length came) (goesOn came);
     }
 
 unfoldable pub tellingOf : Scribe → List ℕ → Telling
 tellingOf before characters = record { scribe = scribeAfter before characters; length = length (textOf before characters) }
 
--- 2 mode above 2; 13 straight after it; 12 fewer than 64 places for each character, which are room for its line
+-- 2 mode above 2; 13 straight after it; 12, stretched to the places that are written to here, fewer than 64 for each character, which are room for its line
 abbrev pub tellRefusals : Scribe → List ℕ → List ℕ → List Refusal
 tellRefusals before characters out =
     (mode-above-2 when ltb 2 (before .reader .mode))
