@@ -1,22 +1,22 @@
 -- Words that have the form of a packet answer what their information bits hold, with the type and the second byte.
 -- Assumes nothing.
 use Prim.Native.Nat.{ℕ}
-use mathlib.Core.Path.{_≡_, sym, _∙_}
-use mathlib.Core.Bool.{false}
+use mathlib.Core.Path.{_≡_, refl, sym, _∙_}
+use mathlib.Core.Bool.{true, false}
 use mathlib.Core.List.{List}
-use native.Mathlib.Omega.{arith}
-use lib.Dec.{ltb}
-use Rattle.refusals.specs.Answer.{answer, Clear, Rising}
-use Rattle.refusals.proofs.Lowest.{carried, otherwise-accepted}
+use Rattle.refusals.specs.Table.{unknown-mode, theOrder}
+use Rattle.refusals.specs.Answer.{answer, Clear, inOrder}
+use Rattle.refusals.proofs.Answered.{carried, otherwise-accepted}
+use Rattle.refusals.proofs.ByNumber.{clear-at}
 use Rattle.record.specs.declared.types.Record.{Record}
 use Rattle.record.specs.declared.types.Unpacked.{Unpacked}
 use Rattle.record.specs.declared.types.Unpacked.the-variants.{Holds as Held, Refused as Unheld}
-use Rattle.record.specs.Record.{recordOf}
-use Rattle.record.specs.Calls.{bitsRefusals, withMode, unpackedOf}
+use Rattle.modes.specs.Modes.{unknown, withMode}
+use Rattle.modes.specs.Calls.{recordIn, bitsRefusalsIn, unpackedIn}
 use Rattle.atc.specs.declared.types.Packet.{Packet}
 use Rattle.atc.specs.declared.types.Packet.the-variants.{Holds, Refused as Unread}
 use Rattle.atc.specs.Words.{infoIn}
-use Rattle.atc.specs.Packet.{dataIn, typeIn, secondIn}
+use Rattle.atc.specs.Packet.{dataIn, typeIn, secondIn, unknownType}
 use Rattle.atc.specs.Calls.{formRefusals, contentRefusals, readRefusals, contentsWith, readOf, writtenRows}
 
 abbrev pub packetAs : ℕ → ℕ → Unpacked → Packet
@@ -28,26 +28,28 @@ module _ (mode : ℕ) (words : List ℕ) (clear : Clear (formRefusals mode words
   pub past-the-form :
       readOf mode words
       ≡ answer Unread (contentRefusals mode words)
-      (Holds (contentsWith (recordOf mode (infoIn (dataIn words))) (typeIn words) (secondIn words)))
+      (Holds (contentsWith (recordIn mode (infoIn (dataIn words))) (typeIn words) (secondIn words)))
   unfolding readOf
   past-the-form = otherwise-accepted Unread _ (formRefusals mode words) clear
 
   -- and then the record
   pub past-the-type :
-      ltb 2 (typeIn words) ≡ false
-      → readOf mode words ≡ packetAs (typeIn words) (secondIn words) (unpackedOf mode (infoIn (dataIn words)))
-  unfolding unpackedOf
+      unknownType (typeIn words) ≡ false
+      → readOf mode words ≡ packetAs (typeIn words) (secondIn words) (unpackedIn mode (infoIn (dataIn words)))
+  unfolding unpackedIn
   past-the-type typed =
       let info = infoIn (dataIn words) in
-      let held = contentsWith (recordOf mode info) (typeIn words) (secondIn words) in
-      let known : answer Unread (bitsRefusals mode info) (Holds held) ≡ answer Unread (withMode mode (bitsRefusals mode info)) (Holds held) = rw (clear .1 .0) in
+      let held = contentsWith (recordIn mode info) (typeIn words) (secondIn words) in
+      let known : unknown mode ≡ false = clear-at unknown-mode (formRefusals mode words) clear in
+      let with-mode : answer Unread (bitsRefusalsIn mode info) (Holds held) ≡ answer Unread (withMode mode (bitsRefusalsIn mode info)) (Holds held) = rw known in
       past-the-form
       ∙ rw typed
-      (known ∙ sym (carried (packetAs (typeIn words) (secondIn words)) Unheld (Held (recordOf mode info)) (withMode mode (bitsRefusals mode info))))
+      (with-mode ∙ sym (carried (packetAs (typeIn words) (secondIn words)) Unheld (Held (recordIn mode info)) (withMode mode (bitsRefusalsIn mode info))))
 
--- "The lowest that applies is given": both lists stand in the table's order
-pub read-rows-rise : (mode : ℕ) (words : List ℕ) → Rising (readRefusals mode words)
-read-rows-rise mode words = (omega arith, (omega arith, (omega arith, omega arith)))
+-- "The lowest that applies is given": both lists follow the table's order
+pub read-rows-in-order : (mode : ℕ) (words : List ℕ) → inOrder theOrder (readRefusals mode words) ≡ true
+read-rows-in-order mode words = refl
 
-pub written-rows-rise : (mode : ℕ) (r : Record) (type start : ℕ) (run : List ℕ) → Rising (writtenRows mode r type start run)
-written-rows-rise mode r type start run = omega arith
+pub written-rows-in-order :
+    (mode : ℕ) (r : Record) (type start : ℕ) (run : List ℕ) → inOrder theOrder (writtenRows mode r type start run) ≡ true
+written-rows-in-order mode r type start run = refl

@@ -10,7 +10,7 @@ use lib.Arith.{lt-one}
 use lib.Dec.{eqb}
 use lib.ListN.{length, take, drop}
 use borrow.Author.Tests.{eq-eqb, ne-eqb, eqb-true, eqb-false, not-false}
-use Rattle.refusals.proofs.Lowest.{neither}
+use Rattle.refusals.proofs.Answered.{neither}
 use Rattle.bits.specs.Bits.{value, toBits, onesIn, someAbove, AllBits}
 use Rattle.bits.proofs.Bit.{head-within, tail-within, within-cons}
 use Rattle.bits.proofs.Joined.{one-more-bit}

@@ -1,25 +1,24 @@
 -- What each answer of a read leads to once the form is judged: the type is refused, or the record is, or both are held.
 -- Assumes nothing.
 use mathlib.Core.Path.{_≡_, sym, ap, _∙_}
-use Prim.Native.Nat.{ℕ, _≤_, _<_}
+use mathlib.Core.Bool.{Bool, true, false}
+use Prim.Native.Nat.{ℕ, _≤_}
 use native.Mathlib.Omega.{arith}
 use mathlib.Core.List.{List}
-use lib.Dec.{eqb}
 use lib.ListN.{length, take, drop}
-use borrow.Author.Tests.{lt-ltb, le-ltb, eqb-true, not-false}
-use Rattle.refusals.specs.Answer.{Clear}
-use Rattle.clock.specs.declared.types.Verdict.{Verdict}
-use Rattle.clock.specs.declared.types.Verdict.the-variants.{Sound, Refused as Unsound}
-use Rattle.clock.specs.Calls.{verdictOf}
-use Rattle.clock.proofs.Verdicts.{refused-by, sound-clear}
+use Rattle.refusals.specs.declared.types.Verdict.{Verdict}
+use Rattle.refusals.specs.declared.types.Verdict.the-variants.{Sound, Refused as Unsound}
+use Rattle.refusals.specs.Answer.{Clear, verdictOf}
+use Rattle.refusals.proofs.Verdicts.{refused-by, sound-clear}
 use Rattle.record.specs.declared.types.Record.{Record}
 use Rattle.record.specs.declared.types.Unpacked.{Unpacked}
 use Rattle.record.specs.declared.types.Unpacked.the-variants.{Holds as Held, Refused as Unheld}
-use Rattle.record.specs.Calls.{unpackedOf}
+use Rattle.modes.specs.Calls.{unpackedIn}
 use Rattle.atc.specs.declared.types.Packet.the-variants.{Holds, Refused as Unread}
 use Rattle.atc.specs.Words.{infoIn, byteIn}
-use Rattle.atc.specs.Packet.{secondIn}
+use Rattle.atc.specs.Packet.{secondIn, unknownType}
 use Rattle.atc.specs.Calls.{formRefusals, contentsWith, readOf}
+use Rattle.atc.proofs.Whole.{size}
 use Rattle.atc.proofs.Answers.{packetAs, past-the-form, past-the-type}
 
 module _ (mode : ℕ) (words : List ℕ) (found : Verdict) (judged : found ≡ verdictOf (formRefusals mode words)) where
@@ -31,22 +30,19 @@ module _ (mode : ℕ) (words : List ℕ) (found : Verdict) (judged : found ≡ v
     clear : Clear (formRefusals mode words)
     clear = sound-clear Unread (Unread 0) (formRefusals mode words) found judged sound
 
-    size : length words ≡ 23
-    size = eqb-true (length words) 23 (not-false (eqb (length words) 23) (clear .0))
-
     pub to-14 : 14 ≤ length words
-    to-14 = omega (arith, size)
+    to-14 = omega (arith, size mode words clear)
 
     pub to-22 : 22 ≤ length words
-    to-22 = omega (arith, size)
+    to-22 = omega (arith, size mode words clear)
 
-    module _ (type : ℕ) (typed : type ≡ byteIn (take 8 (drop 6 words))) where
-      pub high-type : 2 < type → Unread 7 ≡ readOf mode words
-      high-type high = sym (past-the-form mode words clear ∙ rw (← typed, lt-ltb 2 type high))
+    module _ (type : ℕ) (typed : type ≡ byteIn (take 8 (drop 6 words))) (past : Bool) (asked : past ≡ unknownType type) where
+      pub high-type : past ≡ true → Unread 7 ≡ readOf mode words
+      high-type t = sym (past-the-form mode words clear ∙ rw (← typed, ← asked, t))
 
-      module _ (low : type ≤ 2) (info : ℕ) (gathered : info ≡ infoIn (take 16 (drop 6 words))) (unpacked : Unpacked) (said : unpacked ≡ unpackedOf mode info) where
+      module _ (low : past ≡ false) (info : ℕ) (gathered : info ≡ infoIn (take 16 (drop 6 words))) (unpacked : Unpacked) (said : unpacked ≡ unpackedIn mode info) where
         whole : packetAs type (secondIn words) unpacked ≡ readOf mode words
-        whole = rw (said, gathered, typed) (sym (past-the-type mode words clear (rw (← typed) (le-ltb 2 type low))))
+        whole = rw (said, gathered, typed) (sym (past-the-type mode words clear (rw (← typed, ← asked) low)))
 
         pub unheld : (n : ℕ) → unpacked ≡ Unheld n → Unread n ≡ readOf mode words
         unheld n e = ap (packetAs type (secondIn words)) (sym e) ∙ whole

@@ -2,20 +2,23 @@
 -- Assumes nothing.
 use Prim.Native.Nat.{ℕ, _%_, _^_, _<_, _≤_}
 use mathlib.Core.Path.{_≡_, refl, sym, ap, ap₂, _∙_}
-use mathlib.Core.Bool.{true, false, not}
+use mathlib.Core.Bool.{true, false, not, _||_}
 use mathlib.Core.List.{List, [], _∷_, _++_, append-assoc, map, map-append}
 use native.Mathlib.Omega.{arith}
-use lib.Dec.{ltb, eqb}
+use lib.Dec.{eqb}
 use lib.ListN.{length, length-map, take, drop, getD, length-append, length-drop, take-append-drop, drop-of-length-le}
 use lib.Seq.{take-at, drop-at, length-take-le, drop-drop, drop-cons, take-add, take-append-le, drop-append-le, getD-at}
 use borrow.Author.Tests.{eq-eqb, eqb-true, not-false}
-use Rattle.refusals.specs.Answer.{Clear}
-use Rattle.refusals.proofs.Lowest.{neither}
+use Rattle.refusals.specs.Table.{wrong-length, element-too-high, wrong-sync, wrong-check, low-bits-set}
+use Rattle.refusals.specs.Answer.{Refusal, Clear}
+use Rattle.refusals.proofs.Answered.{neither}
+use Rattle.refusals.proofs.ByNumber.{clear-at}
 use Rattle.bits.specs.Bits.{toBits, someAbove, AllBits}
 use Rattle.bits.proofs.Bit.{bits-of-number, length-toBits, within-append, within-cons, within-drop, within-take}
 use Rattle.bits.proofs.Inverse.{value-toBits, toBits-value}
 use Rattle.runs.proofs.Same.{same-itself, same-elements}
-use Rattle.atc.specs.Words.{withOpposite, wrongWord, someWord, dataWords, nibbleIn, bitIn, infoIn, byteIn, sum9}
+use Rattle.modes.specs.Modes.{unknown}
+use Rattle.atc.specs.Words.{withOpposite, wrongWord, lowSet, someWord, dataWords, nibbleIn, bitIn, infoIn, byteIn, sum9}
 use Rattle.atc.specs.Packet.{header, isHeaded, checksumOf, carriedOf, frontOf, packetWith, dataIn, typeIn, secondIn}
 use Rattle.atc.specs.Calls.{formRefusals}
 use Rattle.atc.proofs.Pieces.{length-dataWords, length-carried, length-front, length-packet, checksum-of-front}
@@ -106,11 +109,14 @@ module _ (info type second : ℕ) where
       getD-at front (checksumOf front) [] 0 22 (length-front info type second) ∙ sym (checksum-of-front front last (length-front info type second))
 
   -- a packet that was written has the form of one
-  pub form-clear : (mode : ℕ) → ltb 2 mode ≡ false → Clear (formRefusals mode packet)
-  form-clear mode known = (
-    ap not (eq-eqb (length packet) 23 (length-packet info type second)),
-    (known, (small, (ap not headed, (rw (data-again, every .right, eq-eqb (getD packet 22 0) (checksumOf packet) summed), (rw data-again (every .low-clear), tt))))),
-  )
+  pub form-clear : (mode : ℕ) → unknown mode ≡ false → Clear (formRefusals mode packet)
+  form-clear mode known =
+      let sized : not (eqb (length packet) 23) ≡ false = ap not (eq-eqb (length packet) 23 (length-packet info type second)) in
+      let begun : not (isHeaded packet) ≡ false = ap not headed in
+      let checked : (someWord wrongWord (dataIn packet) || not (eqb (getD packet 22 0) (checksumOf packet))) ≡ false =
+      rw (data-again, every .right, eq-eqb (getD packet 22 0) (checksumOf packet) summed) in
+      let low-clear : someWord lowSet (dataIn packet) ≡ false = rw data-again (every .low-clear) in
+      (sized, (known, (small, (begun, (checked, (low-clear, tt))))))
 
   -- and reads as it was written
   pub info-again : info < 2 ^ 64 → infoIn (dataIn packet) ≡ info
@@ -129,8 +135,11 @@ eight-bits words eight =
 
 -- words that have the form of a packet are those that are written for what they hold
 module _ (mode : ℕ) (words : List ℕ) (clear : Clear (formRefusals mode words)) where
-  size : length words ≡ 23
-  size = eqb-true (length words) 23 (not-false (eqb (length words) 23) (clear .0))
+  abbrev rows : List Refusal
+  rows = formRefusals mode words
+
+  pub size : length words ≡ 23
+  size = eqb-true (length words) 23 (not-false (eqb (length words) 23) (clear-at wrong-length rows clear))
 
   abbrev parts : List ℕ
   parts = dataIn words
@@ -140,11 +149,11 @@ module _ (mode : ℕ) (words : List ℕ) (clear : Clear (formRefusals mode words
 
   begins : take 6 words ≡ header
   unfolding isHeaded
-  begins = same-elements (take 6 words) header (not-false (isHeaded words) (clear .1 .1 .1 .0))
+  begins = same-elements (take 6 words) header (not-false (isHeaded words) (clear-at wrong-sync rows clear))
 
   five : (someWord wrongWord parts ≡ false) × (getD words 22 0 ≡ checksumOf words)
   five =
-      let tests = neither (someWord wrongWord parts) (not (eqb (getD words 22 0) (checksumOf words))) (clear .1 .1 .1 .1 .0) in
+      let tests = neither (someWord wrongWord parts) (not (eqb (getD words 22 0) (checksumOf words))) (clear-at wrong-check rows clear) in
       (tests .0, eqb-true (getD words 22 0) (checksumOf words) (not-false _ (tests .1)))
 
   ends : drop 16 (drop 6 words) ≡ sum
@@ -174,8 +183,8 @@ module _ (mode : ℕ) (words : List ℕ) (clear : Clear (formRefusals mode words
   front-again : frontOf (infoIn parts) (typeIn words) (secondIn words) ≡ header ++ parts
   unfolding frontOf
   front-again =
-      let within = within-take 1023 16 (drop 6 words) (within-drop 1023 6 words (clear .1 .1 .0)) in
-      rw carried-again (ap (λ (l : List ℕ). header ++ l) (all-again parts within (five .0) (clear .1 .1 .1 .1 .1 .0)))
+      let within = within-take 1023 16 (drop 6 words) (within-drop 1023 6 words (clear-at element-too-high rows clear)) in
+      rw carried-again (ap (λ (l : List ℕ). header ++ l) (all-again parts within (five .0) (clear-at low-bits-set rows clear)))
 
   pub packet-again : packetWith (infoIn parts) (typeIn words) (secondIn words) ≡ words
   unfolding packetWith

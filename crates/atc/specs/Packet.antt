@@ -3,6 +3,7 @@
 use Prim.Native.Nat.{ℕ, _%_}
 use mathlib.Core.Bool.{Bool}
 use mathlib.Core.List.{List, [], _∷_, _++_}
+use lib.Dec.{ltb}
 use lib.ListN.{take, drop}
 use Rattle.bits.specs.Bits.{toBits}
 use Rattle.runs.specs.Run.{same}
@@ -38,3 +39,7 @@ typeIn words = byteIn (take 8 (drop 6 words))
 
 abbrev pub secondIn : List ℕ → ℕ
 secondIn words = byteIn (take 8 (drop 14 words))
+
+-- "payload type above 2"
+abbrev pub unknownType : ℕ → Bool
+unknownType type = ltb 2 type

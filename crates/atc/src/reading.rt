@@ -2,7 +2,7 @@
 ghost use mathlib.Core.Path.{_≡_};
 ghost use Prim.Native.Nat.{_≤_};
 ghost use lib.ListN.{length};
-ghost use Rattle.clock.specs.Calls.{verdictOf};
+ghost use Rattle.refusals.specs.Answer.{verdictOf};
 ghost use Rattle.atc.specs.Words.{infoIn, byteIn};
 ghost use Rattle.atc.specs.Packet.{isHeaded};
 ghost use Rattle.atc.specs.Calls.{formRefusals, readOf};
@@ -12,9 +12,10 @@ use crate::sweeps::has_low_bits;
 use crate::sweeps::has_wrong_word;
 use crate::types::Contents;
 use crate::types::Packet;
-use clock::Verdict;
+use crate::words::is_unknown_type;
 use record::Record;
 use record::Unpacked;
+use refusals::Verdict;
 
 // Whether the first six words are those of a packet.
 fn is_headed(words: &[u16]) -> bool
@@ -34,8 +35,8 @@ fn judge(mode: u8, words: &[u16]) -> Verdict
     if words.len() != 23 {
         return Verdict::Refused(refusals::WRONG_LENGTH);
     }
-    if 2 < mode {
-        return Verdict::Refused(refusals::MODE_ABOVE_2);
+    if modes::is_unknown(mode) {
+        return Verdict::Refused(refusals::UNKNOWN_MODE);
     }
     if has_high_word(words) {
         return Verdict::Refused(refusals::ELEMENT_TOO_HIGH);
@@ -91,10 +92,10 @@ pub fn read(mode: u8, words: &[u16]) -> Packet
         Verdict::Refused(number) => Packet::Refused(number),
         Verdict::Sound => {
             let payload_type = byte_in(&words[6..14]);
-            if 2 < payload_type {
-                return Packet::Refused(refusals::TYPE_ABOVE_2);
+            if is_unknown_type(payload_type) {
+                return Packet::Refused(refusals::UNKNOWN_TYPE);
             }
-            let unpacked = record::from_bits(mode, info_in(&words[6..22]));
+            let unpacked = modes::from_bits(mode, info_in(&words[6..22]));
             match unpacked {
                 Unpacked::Refused(number) => Packet::Refused(number),
                 Unpacked::Holds(record) => {

@@ -3,7 +3,7 @@ ghost use mathlib.Core.Path.{_≡_};
 ghost use Prim.Native.Nat.{_%_};
 ghost use Rattle.bits.specs.Bits.{someAbove};
 ghost use Rattle.atc.specs.Words.{wrongWord, lowSet, someWord, sum9, withOpposite};
-use crate::with_opposite;
+use crate::words::with_opposite;
 
 // Whether b8 or b9 of a data word is wrong.
 fn is_wrong(word: u16) -> bool

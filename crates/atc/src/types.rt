@@ -11,8 +11,3 @@ pub enum Packet {
     Holds(Contents),
     Refused(u8),
 }
-
-pub enum Written {
-    Done,
-    Refused(u8),
-}

@@ -5,11 +5,12 @@ ghost use Rattle.bits.specs.Bits.{toBits};
 ghost use Rattle.atc.specs.Words.{dataWords};
 ghost use Rattle.atc.specs.Packet.{header, packetWith};
 ghost use Rattle.atc.specs.Calls.{writtenOf, runOf};
-use crate::data_word;
 use crate::sweeps::checksum;
-use crate::types::Written;
+use crate::words::data_word;
+use crate::words::is_unknown_type;
 use record::Packed;
 use record::Record;
+use runs::Written;
 
 // The first six words.
 fn store_header(run: &mut [u16])
@@ -63,20 +64,17 @@ pub fn write(
     ensures { λ w. ⌜ (w ≡ writtenOf mode r «payload_type» start (now (run .entry)))
         × (now (run .exit) ≡ runOf mode r «payload_type» second start (now (run .entry))) ⌝ }
 {
-    if 2 < mode {
-        return Written::Refused(refusals::MODE_ABOVE_2);
+    if modes::is_unknown(mode) {
+        return Written::Refused(refusals::UNKNOWN_MODE);
     }
-    if 2 < payload_type {
-        return Written::Refused(refusals::TYPE_ABOVE_2);
+    if is_unknown_type(payload_type) {
+        return Written::Refused(refusals::UNKNOWN_TYPE);
     }
-    let packed = record::to_bits(mode, r);
+    let packed = modes::to_bits(mode, r);
     match packed {
         Packed::Refused(number) => Written::Refused(number),
         Packed::Bits(info) => {
-            if run.len() < 23 {
-                return Written::Refused(refusals::NO_ROOM);
-            }
-            if run.len() - 23 < start {
+            if runs::lacks_room(23, start, run.len()) {
                 return Written::Refused(refusals::NO_ROOM);
             }
             let end = start + 23;

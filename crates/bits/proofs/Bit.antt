@@ -8,7 +8,7 @@ use native.Mathlib.Omega.{arith}
 use lib.Dec.{ltb}
 use lib.ListN.{length, take, drop}
 use borrow.Author.Tests.{le-ltb, ltb-false}
-use Rattle.refusals.proofs.Lowest.{neither}
+use Rattle.refusals.proofs.Answered.{neither}
 use Rattle.bits.specs.Bits.{toBits, someAbove, AllBits}
 
 pub head-within : (limit element : ℕ) (elements : List ℕ) → someAbove limit (element ∷ elements) ≡ false → element ≤ limit

@@ -1,26 +1,27 @@
--- A count at the rate of its mode: what the test of drop-frame leads to, and how large the place it starts from gets.
+-- A count at the rate of its rate: what the test of drop-frame leads to, and how large the place it starts from gets.
 -- Assumes nothing.
 use mathlib.Core.Path.{_≡_, sym}
 use mathlib.Core.Bool.{Bool, true, false}
 use Prim.Native.Nat.{ℕ, _-_, _*_, _/_, _≤_, _<_}
 use native.Mathlib.Nat.{sub-zero}
+use Rattle.clock.specs.declared.types.Rate.{Rate}
 use Rattle.clock.specs.declared.types.Address.{Address}
-use Rattle.clock.specs.Modes.{framesInSecond}
+use Rattle.clock.specs.Rates.{framesInSecond}
 use Rattle.clock.specs.Counting.{minutesOf, placeOf, countOf}
 use Rattle.clock.proofs.Sizes.{Bytes, some-rate, rate-small, place-small, place-large}
 
-module _ (mode fps : ℕ) (a : Address) (rate : fps ≡ framesInSecond mode) where
+module _ (rate : Rate) (fps : ℕ) (a : Address) (pace : fps ≡ framesInSecond rate) where
   pub large : 60 * minutesOf a ≤ placeOf fps a
-  large = place-large fps a (rw rate (some-rate mode))
+  large = place-large fps a (rw pace (some-rate rate))
 
   pub small : Bytes a → placeOf fps a < 30000000
-  small b = place-small fps a b (rw rate (rate-small mode))
+  small b = place-small fps a b (rw pace (rate-small rate))
 
   module _ (drop : Bool) where
-    pub dropped : drop ≡ true → placeOf fps a - 2 * (minutesOf a - minutesOf a / 10) ≡ countOf (framesInSecond mode) drop a
+    pub dropped : drop ≡ true → placeOf fps a - 2 * (minutesOf a - minutesOf a / 10) ≡ countOf (framesInSecond rate) drop a
     unfolding countOf
-    dropped d = rw (← rate, d)
+    dropped d = rw (← pace, d)
 
-    pub whole : drop ≡ false → placeOf fps a ≡ countOf (framesInSecond mode) drop a
+    pub whole : drop ≡ false → placeOf fps a ≡ countOf (framesInSecond rate) drop a
     unfolding countOf
-    whole d = rw (← rate, d) (sym (sub-zero (placeOf fps a)))
+    whole d = rw (← pace, d) (sym (sub-zero (placeOf fps a)))

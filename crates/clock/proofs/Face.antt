@@ -8,7 +8,7 @@ use native.Mathlib.Nat.{div-add-mod', mod-lt, mod-eq-of-lt, div-lt-iff-lt-mul}
 use lib.Arith.{digits-div, digits-mod, digits-lt, mod-mul}
 use lib.Dec.{ltb, lit<}
 use borrow.Author.Tests.{ltb-true, ltb-false, leb-false, le-ltb, lt-leb}
-use Rattle.refusals.proofs.Lowest.{neither}
+use Rattle.refusals.proofs.Answered.{neither}
 use Rattle.clock.specs.declared.types.Address.{Address}
 use Rattle.clock.specs.Clock.{showing, outside, secondOn, frameOn}
 use Rattle.clock.specs.Counting.{minutesOf, placeOf, faceAt}

@@ -2,8 +2,8 @@
 pub mod Face
 -- Skip       drop-frame: where the numbers of a day stand on a clock that skips nothing
 pub mod Skip
--- Rate       the ways of counting, and what the laws of the clock rest on for each
-pub mod Rate
+-- Ways       the ways of counting, and what the laws of the clock rest on for each
+pub mod Ways
 -- Shown      what the clock shows is the closed form; numbers and addresses match one to one
 pub mod Shown
 -- Round      the sum goes round midnight either way; the distance lies in its range, and adding it arrives
@@ -12,8 +12,6 @@ pub mod Round
 pub mod Sizes
 -- CountTests what the test of drop-frame leads to in a count, and how large its place gets
 pub mod CountTests
--- Verdicts   a call that takes its refusal from a verdict answers as its own list says
-pub mod Verdicts
 -- Counts     a signed count taken apart: how far on, or one less than how far back
 pub mod Counts
 -- Answers    the laws of the clock, said of what the calls answer

@@ -5,25 +5,24 @@ use mathlib.Core.Path.{_≡_, refl}
 use mathlib.Core.Bool.{Bool, true, false}
 use native.Mathlib.Omega.{arith}
 use native.Mathlib.Nat.{mul-le-mul-left, div-lt-iff-lt-mul}
-use lib.Dec.{eqb, lit<, lit≤}
+use lib.Dec.{lit<, lit≤}
+use Rattle.clock.specs.declared.types.Rate.{Rate}
+use Rattle.clock.specs.declared.types.Rate.the-variants.{At24, At25, At30}
 use Rattle.clock.specs.declared.types.Address.{Address}
-use Rattle.clock.specs.Modes.{byMode, framesInSecond, framesInDay}
+use Rattle.clock.specs.Rates.{byRate, framesInSecond, framesInDay}
 use Rattle.clock.specs.Counting.{minutesOf, placeOf, countOf, placeAt}
 
--- what is true of each of the three is true of the mode's own
-pub of-the-mode : (P : ℕ → Type 0) (mode : ℕ) {x y z : ℕ} → P x → P y → P z → P (byMode mode x y z)
-of-the-mode P mode {x} {y} {z} px py pz = go (eqb mode 0) refl (eqb mode 1) refl
-  where
-    go : (s : Bool) → eqb mode 0 ≡ s → (t : Bool) → eqb mode 1 ≡ t → P (byMode mode x y z)
-    go true s t′ t = rw s px
-    go false s true t = rw (s, t) py
-    go false s false t = rw (s, t) pz
+-- what is true of each of the three is true of the rate's own
+pub of-the-rate : (P : ℕ → Type 0) (rate : Rate) {x y z : ℕ} → P x → P y → P z → P (byRate rate x y z)
+of-the-rate P At24 px py pz = px
+of-the-rate P At25 px py pz = py
+of-the-rate P At30 px py pz = pz
 
-pub rate-small : (mode : ℕ) → framesInSecond mode ≤ 30
-rate-small mode = of-the-mode (λ (x : ℕ). x ≤ 30) mode (lit≤ tt) (lit≤ tt) (lit≤ tt)
+pub rate-small : (rate : Rate) → framesInSecond rate ≤ 30
+rate-small rate = of-the-rate (λ (x : ℕ). x ≤ 30) rate (lit≤ tt) (lit≤ tt) (lit≤ tt)
 
-pub some-rate : (mode : ℕ) → 0 < framesInSecond mode
-some-rate mode = of-the-mode (λ (x : ℕ). 0 < x) mode (lit< tt) (lit< tt) (lit< tt)
+pub some-rate : (rate : Rate) → 0 < framesInSecond rate
+some-rate rate = of-the-rate (λ (x : ℕ). 0 < x) rate (lit< tt) (lit< tt) (lit< tt)
 
 -- an address whose fields are bytes
 pub record Bytes (a : Address) : Type 0 where
@@ -39,33 +38,33 @@ place-small fps a b low = omega (arith, mul-le-mul-left (60 * minutesOf a + a .s
 pub place-large : (fps : ℕ) (a : Address) → 0 < fps → 60 * minutesOf a ≤ placeOf fps a
 place-large fps a some = omega (arith, mul-le-mul-left (60 * minutesOf a + a .seconds) some)
 
--- the same of a count that is known to be an address's, and of a day that is known to be a mode's
+-- the same of a count that is known to be an address's, and of a day that is known to be a rate's
 pub count-small :
-    (mode n : ℕ) (drop : Bool) (a : Address) → n ≡ countOf (framesInSecond mode) drop a
+    (rate : Rate) (n : ℕ) (drop : Bool) (a : Address) → n ≡ countOf (framesInSecond rate) drop a
     → a .hours < 256 → a .minutes < 256 → a .seconds < 256 → a .frames .0 < 256 → n < 30000000
 unfolding countOf
-count-small mode n drop a e h m s f =
+count-small rate n drop a e h m s f =
     let bytes : Bytes a = record { hours = h; minutes = m; seconds = s; frames = f } in
-    rw e (omega (arith, place-small (framesInSecond mode) a bytes (rate-small mode)))
+    rw e (omega (arith, place-small (framesInSecond rate) a bytes (rate-small rate)))
 
--- what is true of each of the four days is true of the mode's own
-of-the-day : (P : ℕ → Type 0) (mode : ℕ) (drop : Bool) → P 2073600 → P 2160000 → P 2589408 → P 2592000 → P (framesInDay mode drop)
-of-the-day P mode true at24 at25 at30drop at30 = of-the-mode P mode at24 at25 at30drop
-of-the-day P mode false at24 at25 at30drop at30 = of-the-mode P mode at24 at25 at30
+-- what is true of each of the four days is true of the rate's own
+of-the-day : (P : ℕ → Type 0) (rate : Rate) (drop : Bool) → P 2073600 → P 2160000 → P 2589408 → P 2592000 → P (framesInDay rate drop)
+of-the-day P rate true at24 at25 at30drop at30 = of-the-rate P rate at24 at25 at30drop
+of-the-day P rate false at24 at25 at30drop at30 = of-the-rate P rate at24 at25 at30
 
-pub even-day : (mode : ℕ) (drop : Bool) → framesInDay mode drop % 2 ≡ 0
-even-day mode drop = of-the-day (λ (x : ℕ). x % 2 ≡ 0) mode drop refl refl refl refl
+pub even-day : (rate : Rate) (drop : Bool) → framesInDay rate drop % 2 ≡ 0
+even-day rate drop = of-the-day (λ (x : ℕ). x % 2 ≡ 0) rate drop refl refl refl refl
 
-module _ (mode day : ℕ) (drop : Bool) (whole : day ≡ framesInDay mode drop) where
+module _ (rate : Rate) (day : ℕ) (drop : Bool) (whole : day ≡ framesInDay rate drop) where
   pub day-small : day ≤ 2592000
-  day-small = rw whole (of-the-day (λ (x : ℕ). x ≤ 2592000) mode drop (lit≤ tt) (lit≤ tt) (lit≤ tt) (lit≤ tt))
+  day-small = rw whole (of-the-day (λ (x : ℕ). x ≤ 2592000) rate drop (lit≤ tt) (lit≤ tt) (lit≤ tt) (lit≤ tt))
 
   pub some-day : 0 < day
-  some-day = rw whole (of-the-day (λ (x : ℕ). 0 < x) mode drop (lit< tt) (lit< tt) (lit< tt) (lit< tt))
+  some-day = rw whole (of-the-day (λ (x : ℕ). 0 < x) rate drop (lit< tt) (lit< tt) (lit< tt) (lit< tt))
 
--- every mode counts at least 24 frames a second, so a number below 2,592,000 shows fewer than 256 hours
-pub rate-large : (mode : ℕ) → 24 ≤ framesInSecond mode
-rate-large mode = of-the-mode (λ (x : ℕ). 24 ≤ x) mode (lit≤ tt) (lit≤ tt) (lit≤ tt)
+-- every rate counts at least 24 frames a second, so a number below 2,592,000 shows fewer than 256 hours
+pub rate-large : (rate : Rate) → 24 ≤ framesInSecond rate
+rate-large rate = of-the-rate (λ (x : ℕ). 24 ≤ x) rate (lit≤ tt) (lit≤ tt) (lit≤ tt)
 
 pub placeAt-small : (drop : Bool) (n : ℕ) → n < 2592000 → placeAt drop n < 2600000
 placeAt-small true n h = omega arith

@@ -4,21 +4,23 @@ ghost use mathlib.Core.Bool.{true, false};
 ghost use Prim.Native.Nat.{_<_, _≤_};
 ghost use lib.IntN.{pos, negsuc};
 ghost use lib.Signed.{nonNeg};
-ghost use Rattle.clock.specs.Modes.{framesInSecond};
+ghost use Rattle.clock.specs.Rates.{framesInSecond};
 ghost use Rattle.clock.specs.Clock.{showing};
 ghost use Rattle.clock.specs.Counting.{placeAt, addressAt, sumOf};
 ghost use Rattle.clock.specs.Calls.{addressOf, fieldsOf, plusOf};
 use crate::counting::count;
-use crate::modes::frames_in_day;
-use crate::modes::frames_in_second;
-use crate::modes::is_yes;
-use crate::modes::judge;
+use crate::judging::judge;
+use crate::rates::frames_in_day;
+use crate::rates::frames_in_second;
+use crate::rates::is_yes;
+use crate::rates::may_drop;
 use crate::types::Address;
 use crate::types::DayFrame;
 use crate::types::Flag;
 use crate::types::Placed;
+use crate::types::Rate;
 use crate::types::SecondFrame;
-use crate::types::Verdict;
+use refusals::Verdict;
 
 // The place of a number on a clock that skips nothing.
 fn place(drop: bool, number: DayFrame) -> u32
@@ -38,11 +40,11 @@ fn place(drop: bool, number: DayFrame) -> u32
 }
 
 // The address of a number of the day.
-fn address_at(mode: u8, drop: bool, number: DayFrame) -> Address
+fn address_at(rate: Rate, drop: bool, number: DayFrame) -> Address
     requires { ⌜ number .0 < 2592000 ⌝ }
-    ensures { λ r. ⌜ r ≡ addressAt (framesInSecond mode) drop (number .0) ⌝ }
+    ensures { λ r. ⌜ r ≡ addressAt (framesInSecond rate) drop (number .0) ⌝ }
 {
-    let fps = frames_in_second(mode);
+    let fps = frames_in_second(rate);
     let place = place(drop, number);
     let second = place / fps;
     let minute = second / 60;
@@ -58,33 +60,29 @@ fn address_at(mode: u8, drop: bool, number: DayFrame) -> Address
     }
 }
 
-pub fn address_of(mode: u8, drop: Flag, number: DayFrame) -> Placed
-    ensures { λ r. ⌜ r ≡ addressOf mode drop number ⌝ }
+pub fn address_of(rate: Rate, drop: Flag, number: DayFrame) -> Placed
+    ensures { λ r. ⌜ r ≡ addressOf rate drop number ⌝ }
 {
     let dropped = is_yes(drop);
-    let unknown = 2 < mode;
-    let unused = (mode < 2) & dropped;
-    if unknown {
-        return Placed::Refused(refusals::MODE_ABOVE_2);
-    }
+    let unused = dropped & !may_drop(rate);
     if unused {
         return Placed::Refused(refusals::UNUSED_BIT_SET);
     }
-    if frames_in_day(mode, dropped) <= number.0 {
+    if frames_in_day(rate, dropped) <= number.0 {
         return Placed::Refused(refusals::NUMBER_PAST_THE_DAY);
     }
-    Placed::At(address_at(mode, dropped, number))
+    Placed::At(address_at(rate, dropped, number))
 }
 
 pub fn address_from(
-    mode: u8,
+    rate: Rate,
     drop: Flag,
     hours: u8,
     minutes: u8,
     seconds: u8,
     frames: SecondFrame,
 ) -> Placed
-    ensures { λ r. ⌜ r ≡ fieldsOf mode drop (showing hours minutes seconds (frames .0)) ⌝ }
+    ensures { λ r. ⌜ r ≡ fieldsOf rate drop (showing hours minutes seconds (frames .0)) ⌝ }
 {
     let fields = Address {
         hours,
@@ -92,7 +90,7 @@ pub fn address_from(
         seconds,
         frames,
     };
-    let found = judge(mode, drop, fields);
+    let found = judge(rate, drop, fields, false, false);
     match found {
         Verdict::Refused(number) => Placed::Refused(number),
         Verdict::Sound => Placed::At(fields),
@@ -126,17 +124,17 @@ fn sum(day: u32, number: u32, frames: i32) -> u32
     (number + on_by(frames)) % day
 }
 
-pub fn add(mode: u8, drop: Flag, address: Address, frames: i32) -> Placed
-    ensures { λ r. ⌜ r ≡ plusOf mode drop address frames ⌝ }
+pub fn add(rate: Rate, drop: Flag, address: Address, frames: i32) -> Placed
+    ensures { λ r. ⌜ r ≡ plusOf rate drop address frames ⌝ }
 {
-    let found = judge(mode, drop, address);
+    let found = judge(rate, drop, address, false, false);
     match found {
         Verdict::Refused(number) => Placed::Refused(number),
         Verdict::Sound => {
             let dropped = is_yes(drop);
-            let day = frames_in_day(mode, dropped);
-            let number = DayFrame(sum(day, count(mode, dropped, address).0, frames));
-            Placed::At(address_at(mode, dropped, number))
+            let day = frames_in_day(rate, dropped);
+            let number = DayFrame(sum(day, count(rate, dropped, address).0, frames));
+            Placed::At(address_at(rate, dropped, number))
         }
     }
 }

@@ -1,16 +1,17 @@
 // The arithmetic of the day: an address's frame number, which the calls give out once the address has been found sound.
 ghost use mathlib.Core.Path.{_≡_};
-ghost use Rattle.clock.specs.Modes.{framesInSecond};
+ghost use Rattle.clock.specs.Rates.{framesInSecond};
 ghost use Rattle.clock.specs.Counting.{countOf};
-use crate::modes::frames_in_second;
+use crate::rates::frames_in_second;
 use crate::types::Address;
 use crate::types::DayFrame;
+use crate::types::Rate;
 
 // The frame number of an address: its place on a clock that skips nothing, less two for each minute begun but every tenth.
-pub fn count(mode: u8, drop: bool, a: Address) -> DayFrame
-    ensures { λ r. ⌜ r .0 ≡ countOf (framesInSecond mode) drop a ⌝ }
+pub fn count(rate: Rate, drop: bool, a: Address) -> DayFrame
+    ensures { λ r. ⌜ r .0 ≡ countOf (framesInSecond rate) drop a ⌝ }
 {
-    let fps = frames_in_second(mode);
+    let fps = frames_in_second(rate);
     let hours = a.hours as u32;
     let minutes = a.minutes as u32;
     let seconds = a.seconds as u32;

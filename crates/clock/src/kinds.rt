@@ -2,7 +2,8 @@
 // from a frame number of the day and from clock fields.
 ghost use mathlib.Core.Path.{_≡_};
 ghost use Rattle.clock.specs.declared.types.Flag.the-variants.{No, Yes};
-ghost use Rattle.clock.specs.Modes.{kindConstants};
+ghost use Rattle.clock.specs.declared.types.Rate.the-variants.{At24, At25, At30};
+ghost use Rattle.clock.specs.Rates.{kindConstants};
 ghost use Rattle.clock.specs.Clock.{showing};
 ghost use Rattle.clock.specs.Calls.{addressOf, fieldsOf};
 use crate::addresses::address_from;
@@ -10,6 +11,7 @@ use crate::addresses::address_of;
 use crate::types::DayFrame;
 use crate::types::Flag;
 use crate::types::Placed;
+use crate::types::Rate;
 use crate::types::SecondFrame;
 
 pub struct Frames24;
@@ -26,15 +28,15 @@ impl Frames24 {
     pub const IN_DAY: u32 = 2_073_600;
 
     pub fn from_number(number: DayFrame) -> Placed
-        ensures { λ r. ⌜ r ≡ addressOf 0 No number ⌝ }
+        ensures { λ r. ⌜ r ≡ addressOf At24 No number ⌝ }
     {
-        address_of(0, Flag::No, number)
+        address_of(Rate::At24, Flag::No, number)
     }
 
     pub fn from_fields(hours: u8, minutes: u8, seconds: u8, frames: SecondFrame) -> Placed
-        ensures { λ r. ⌜ r ≡ fieldsOf 0 No (showing hours minutes seconds (frames .0)) ⌝ }
+        ensures { λ r. ⌜ r ≡ fieldsOf At24 No (showing hours minutes seconds (frames .0)) ⌝ }
     {
-        address_from(0, Flag::No, hours, minutes, seconds, frames)
+        address_from(Rate::At24, Flag::No, hours, minutes, seconds, frames)
     }
 }
 
@@ -44,15 +46,15 @@ impl Frames25 {
     pub const IN_DAY: u32 = 2_160_000;
 
     pub fn from_number(number: DayFrame) -> Placed
-        ensures { λ r. ⌜ r ≡ addressOf 1 No number ⌝ }
+        ensures { λ r. ⌜ r ≡ addressOf At25 No number ⌝ }
     {
-        address_of(1, Flag::No, number)
+        address_of(Rate::At25, Flag::No, number)
     }
 
     pub fn from_fields(hours: u8, minutes: u8, seconds: u8, frames: SecondFrame) -> Placed
-        ensures { λ r. ⌜ r ≡ fieldsOf 1 No (showing hours minutes seconds (frames .0)) ⌝ }
+        ensures { λ r. ⌜ r ≡ fieldsOf At25 No (showing hours minutes seconds (frames .0)) ⌝ }
     {
-        address_from(1, Flag::No, hours, minutes, seconds, frames)
+        address_from(Rate::At25, Flag::No, hours, minutes, seconds, frames)
     }
 }
 
@@ -62,15 +64,15 @@ impl Frames30 {
     pub const IN_DAY: u32 = 2_592_000;
 
     pub fn from_number(number: DayFrame) -> Placed
-        ensures { λ r. ⌜ r ≡ addressOf 2 No number ⌝ }
+        ensures { λ r. ⌜ r ≡ addressOf At30 No number ⌝ }
     {
-        address_of(2, Flag::No, number)
+        address_of(Rate::At30, Flag::No, number)
     }
 
     pub fn from_fields(hours: u8, minutes: u8, seconds: u8, frames: SecondFrame) -> Placed
-        ensures { λ r. ⌜ r ≡ fieldsOf 2 No (showing hours minutes seconds (frames .0)) ⌝ }
+        ensures { λ r. ⌜ r ≡ fieldsOf At30 No (showing hours minutes seconds (frames .0)) ⌝ }
     {
-        address_from(2, Flag::No, hours, minutes, seconds, frames)
+        address_from(Rate::At30, Flag::No, hours, minutes, seconds, frames)
     }
 }
 
@@ -80,15 +82,15 @@ impl Frames30Drop {
     pub const IN_DAY: u32 = 2_589_408;
 
     pub fn from_number(number: DayFrame) -> Placed
-        ensures { λ r. ⌜ r ≡ addressOf 2 Yes number ⌝ }
+        ensures { λ r. ⌜ r ≡ addressOf At30 Yes number ⌝ }
     {
-        address_of(2, Flag::Yes, number)
+        address_of(Rate::At30, Flag::Yes, number)
     }
 
     pub fn from_fields(hours: u8, minutes: u8, seconds: u8, frames: SecondFrame) -> Placed
-        ensures { λ r. ⌜ r ≡ fieldsOf 2 Yes (showing hours minutes seconds (frames .0)) ⌝ }
+        ensures { λ r. ⌜ r ≡ fieldsOf At30 Yes (showing hours minutes seconds (frames .0)) ⌝ }
     {
-        address_from(2, Flag::Yes, hours, minutes, seconds, frames)
+        address_from(Rate::At30, Flag::Yes, hours, minutes, seconds, frames)
     }
 }
 

@@ -5,23 +5,24 @@ ghost use lib.IntN.{subℕ};
 ghost use Rattle.clock.specs.Calls.{numberOf, spanOf};
 ghost use Rattle.clock.specs.Counting.{distanceOf};
 use crate::counting::count;
-use crate::modes::frames_in_day;
-use crate::modes::is_yes;
-use crate::modes::judge;
-use crate::modes::judge_two;
+use crate::judging::judge;
+use crate::judging::judge_two;
+use crate::rates::frames_in_day;
+use crate::rates::is_yes;
 use crate::types::Address;
 use crate::types::Flag;
 use crate::types::Numbered;
+use crate::types::Rate;
 use crate::types::Span;
-use crate::types::Verdict;
+use refusals::Verdict;
 
-pub fn number_of(mode: u8, drop: Flag, address: Address) -> Numbered
-    ensures { λ r. ⌜ r ≡ numberOf mode drop address ⌝ }
+pub fn number_of(rate: Rate, drop: Flag, address: Address) -> Numbered
+    ensures { λ r. ⌜ r ≡ numberOf rate drop address ⌝ }
 {
-    let found = judge(mode, drop, address);
+    let found = judge(rate, drop, address, false, false);
     match found {
         Verdict::Refused(number) => Numbered::Refused(number),
-        Verdict::Sound => Numbered::Number(count(mode, is_yes(drop), address)),
+        Verdict::Sound => Numbered::Number(count(rate, is_yes(drop), address)),
     }
 }
 
@@ -53,17 +54,17 @@ fn between(day: u32, from: u32, to: u32) -> i32
     difference(to, from)
 }
 
-pub fn distance(mode: u8, drop: Flag, from: Address, to: Address) -> Span
-    ensures { λ r. ⌜ r ≡ spanOf mode drop from to ⌝ }
+pub fn distance(rate: Rate, drop: Flag, from: Address, to: Address) -> Span
+    ensures { λ r. ⌜ r ≡ spanOf rate drop from to ⌝ }
 {
-    let found = judge_two(mode, drop, from, to);
+    let found = judge_two(rate, drop, from, to);
     match found {
         Verdict::Refused(number) => Span::Refused(number),
         Verdict::Sound => {
             let dropped = is_yes(drop);
-            let day = frames_in_day(mode, dropped);
-            let start = count(mode, dropped, from);
-            let end = count(mode, dropped, to);
+            let day = frames_in_day(rate, dropped);
+            let start = count(rate, dropped, from);
+            let end = count(rate, dropped, to);
             Span::Frames(between(day, start.0, end.0))
         }
     }

@@ -4,6 +4,13 @@ pub enum Flag {
     Yes,
 }
 
+// The rates of counting: 24, 25 and 30 frames in a second.
+pub enum Rate {
+    At24,
+    At25,
+    At30,
+}
+
 // A frame number within a second, and a frame number of the day: kinds that must not be mixed by accident.
 pub struct SecondFrame(pub u8);
 
@@ -14,12 +21,6 @@ pub struct Address {
     pub minutes: u8,
     pub seconds: u8,
     pub frames: SecondFrame,
-}
-
-// Whether what was judged is sound, or the number that it is refused with.
-pub enum Verdict {
-    Sound,
-    Refused(u8),
 }
 
 pub enum Numbered {

@@ -3,90 +3,104 @@
 -- Assumes nothing.
 use Prim.Native.Nat.{ℕ, zero, suc}
 use mathlib.Core.Path.{_≡_, refl, _∙_}
-use mathlib.Core.Bool.{Bool, true, false, _&&_, _||_, true≢false}
+use mathlib.Core.Bool.{Bool, true, false, not, _&&_, _||_, true≢false}
+use mathlib.Core.List.{List}
 use mathlib.Core.Logic.{_↔_}
 use native.Mathlib.Omega.{arith}
-use lib.Dec.{ltb, eqb}
-use borrow.Author.Tests.{ltb-false, eqb-true}
-use Rattle.refusals.specs.Answer.{Clear}
-use Rattle.refusals.proofs.Lowest.{neither}
+use borrow.Author.Tests.{leb-false}
+use Rattle.refusals.specs.Table.{unknown-mode, outside-the-clock, skipped-address, unused-bit-set}
+use Rattle.refusals.specs.Answer.{Refusal, Clear}
+use Rattle.refusals.proofs.Answered.{neither}
+use Rattle.refusals.proofs.ByNumber.{clear-at}
+use Rattle.clock.specs.declared.types.Rate.{Rate}
 use Rattle.clock.specs.declared.types.Flag.{Flag}
 use Rattle.clock.specs.declared.types.Flag.the-variants.{No, Yes}
-use Rattle.clock.specs.Modes.{isYes, framesInSecond}
 use Rattle.clock.specs.Clock.{outside, skipped}
 use Rattle.clock.specs.Counting.{countOf}
 use Rattle.clock.proofs.Answers.{Counts, counts, clear-address}
 use Rattle.clock.proofs.Shown.{turnedAway, never-shown, shown-at-its-number}
+use Rattle.clock.specs.Rates.{isYes, framesInSecond, mayDrop}
 use Rattle.record.specs.declared.types.Record.{Record}
-use Rattle.record.specs.Record.{addressIn, groupAbove15}
-use Rattle.record.specs.Calls.{writeRefusals, withMode}
+use Rattle.record.specs.Flags.{unusedColour}
+use Rattle.record.specs.Record.{groupAbove15}
+use Rattle.modes.specs.Calls.{writeRefusalsIn}
+use Rattle.modes.specs.Modes.{unknown, rateAt, withMode}
 use Rattle.demands.specs.Modes.{CountingMode, at24, at25, at30, at30drop}
 use Rattle.demands.specs.Records.{Acceptable}
 
-pub known : {mode : ℕ} {drop : Flag} → CountingMode mode drop → ltb 2 mode ≡ false
+pub known : {mode : ℕ} {drop : Flag} → CountingMode mode drop → unknown mode ≡ false
 known at24 = refl
 known at25 = refl
 known at30 = refl
 known at30drop = refl
 
-pub allowed : {mode : ℕ} {drop : Flag} → CountingMode mode drop → (ltb mode 2 && isYes drop) ≡ false
+pub allowed : {mode : ℕ} {drop : Flag} → CountingMode mode drop → (isYes drop && not (mayDrop (rateAt mode))) ≡ false
 allowed at24 = refl
 allowed at25 = refl
 allowed at30 = refl
 allowed at30drop = refl
 
-counting : (mode : ℕ) (drop : Flag) → ltb 2 mode ≡ false → (ltb mode 2 && isYes drop) ≡ false → CountingMode mode drop
+counting : (mode : ℕ) (drop : Flag) → unknown mode ≡ false → (isYes drop && not (mayDrop (rateAt mode))) ≡ false → CountingMode mode drop
 counting zero No low drops = at24
 counting zero Yes low drops = absurd (true≢false drops)
 counting (suc zero) No low drops = at25
 counting (suc zero) Yes low drops = absurd (true≢false drops)
 counting (suc (suc zero)) No low drops = at30
 counting (suc (suc zero)) Yes low drops = at30drop
-counting (suc (suc (suc mode))) drop low drops = let few = ltb-false 2 (suc (suc (suc mode))) low in absurd (omega arith)
+counting (suc (suc (suc mode))) drop low drops = let few = leb-false 3 (suc (suc (suc mode))) low in absurd (omega arith)
+
+-- the colour bit is unused in mode 0
+colour-of : (mode : ℕ) (colour : Flag) → unusedColour (rateAt mode) colour ≡ false → mode ≡ 0 → colour ≡ No
+colour-of zero No unused none = refl
+colour-of zero Yes unused none = absurd (true≢false unused)
+colour-of (suc mode) colour unused none = absurd (omega arith)
+
+colour-unused : (mode : ℕ) (colour : Flag) → (mode ≡ 0 → colour ≡ No) → unusedColour (rateAt mode) colour ≡ false
+colour-unused zero colour colourless = rw (colourless refl)
+colour-unused (suc zero) colour colourless = refl
+colour-unused (suc (suc zero)) colour colourless = refl
+colour-unused (suc (suc (suc mode))) colour colourless = refl
 
 module _ (mode : ℕ) (r : Record) where
-  abbrev Unrefused : Type 0
-  Unrefused = Clear (withMode mode (writeRefusals mode r))
+  abbrev rate : Rate
+  rate = rateAt mode
 
-  colour-of : (eqb mode 0 && isYes (r .colour)) ≡ false → mode ≡ 0 → r .colour ≡ No
-  colour-of unused none = go (r .colour) (rw none at unused)
-    where
-      go : (colour : Flag) → isYes colour ≡ false → colour ≡ No
-      go No e = refl
-      go Yes e = absurd (true≢false e)
+  abbrev fps : ℕ
+  fps = framesInSecond rate
 
-  colour-unused : (mode ≡ 0 → r .colour ≡ No) → (eqb mode 0 && isYes (r .colour)) ≡ false
-  colour-unused colourless = go (eqb mode 0) refl
-    where
-      go : (t : Bool) → eqb mode 0 ≡ t → (t && isYes (r .colour)) ≡ false
-      go true t = rw (colourless (eqb-true mode 0 t))
-      go false t = refl
+  abbrev dropped : Bool
+  dropped = isYes (r .flags .drop)
 
-  there : Unrefused → Acceptable mode r
+  abbrev rows : List Refusal
+  rows = withMode mode (writeRefusalsIn mode r)
+
+  there : Clear rows → Acceptable mode r
   there clear =
-      let eight = neither (groupAbove15 r) (outside (framesInSecond mode) (addressIn r)) (clear .1 .0) in
-      let ten = neither (ltb mode 2 && isYes (r .drop)) (eqb mode 0 && isYes (r .colour)) (clear .1 .1 .1 .0) in
-      let sound = clear-address mode (r .drop) (addressIn r) (clear .0, (eight .1, (clear .1 .1 .0, (ten .0, tt)))) in
+      let eight = neither (groupAbove15 (r .groups)) (outside fps (r .address)) (clear-at outside-the-clock rows clear) in
+      let ten = neither (unusedColour rate (r .flags .colour)) (dropped && not (mayDrop rate)) (clear-at unused-bit-set rows clear) in
+      let sound = clear-address rate (r .flags .drop) (r .address) (eight .1, (clear-at skipped-address rows clear, (ten .1, tt))) in
       record {
-        counts = counting mode (r .drop) (clear .0) (ten .0);
-        steps = countOf (framesInSecond mode) (isYes (r .drop)) (addressIn r);
-        shows = shown-at-its-number (sound .0 .rate) (addressIn r) (sound .1);
-        colourless = colour-of (ten .1);
+        counts = counting mode (r .flags .drop) (clear-at unknown-mode rows clear) (ten .1);
+        steps = countOf fps dropped (r .address);
+        shows = shown-at-its-number (sound .0 .way) (r .address) (sound .1);
+        colourless = colour-of mode (r .flags .colour) (ten .0);
         groups = eight .0;
       }
 
-  back : Acceptable mode r → Unrefused
+  back : Acceptable mode r → Clear rows
   back ok =
-      let kind = counts mode (isYes (r .drop)) (known (ok .counts)) (allowed (ok .counts)) in
-      let stands = standing (turnedAway (framesInSecond mode) (isYes (r .drop)) (addressIn r)) refl kind in
-      let tests = neither (outside (framesInSecond mode) (addressIn r)) (isYes (r .drop) && skipped (addressIn r)) stands in
-      let eight : (groupAbove15 r || outside (framesInSecond mode) (addressIn r)) ≡ false = rw (ok .groups) (tests .0) in
-      let ten : ((ltb mode 2 && isYes (r .drop)) || (eqb mode 0 && isYes (r .colour))) ≡ false = rw (allowed (ok .counts)) (colour-unused (ok .colourless)) in
-      (known (ok .counts), (eight, (kind .nine (skipped (addressIn r)) ∙ tests .1, (ten, tt))))
+      let kind = counts rate dropped (allowed (ok .counts)) in
+      let stands = standing (turnedAway fps dropped (r .address)) refl kind in
+      let tests = neither (outside fps (r .address)) (dropped && skipped (r .address)) stands in
+      let eight : (groupAbove15 (r .groups) || outside fps (r .address)) ≡ false = rw (ok .groups) (tests .0) in
+      let nine = kind .nine (skipped (r .address)) ∙ tests .1 in
+      let ten : (unusedColour rate (r .flags .colour) || (dropped && not (mayDrop rate))) ≡ false =
+      rw (colour-unused mode (r .flags .colour) (ok .colourless)) (allowed (ok .counts)) in
+      (known (ok .counts), (eight, (nine, (ten, tt))))
     where
-      standing : (t : Bool) → turnedAway (framesInSecond mode) (isYes (r .drop)) (addressIn r) ≡ t → Counts mode (isYes (r .drop)) → turnedAway (framesInSecond mode) (isYes (r .drop)) (addressIn r) ≡ false
-      standing true t kind = absurd (never-shown (kind .rate) (addressIn r) t (ok .steps) (ok .shows))
+      standing : (t : Bool) → turnedAway fps dropped (r .address) ≡ t → Counts rate dropped → turnedAway fps dropped (r .address) ≡ false
+      standing true t kind = absurd (never-shown (kind .way) (r .address) t (ok .steps) (ok .shows))
       standing false t kind = t
 
-  pub acceptable-exactly : Unrefused ↔ Acceptable mode r
+  pub acceptable-exactly : Clear rows ↔ Acceptable mode r
   acceptable-exactly = (there, back)

@@ -4,7 +4,7 @@
 -- What the elements mean is in the definitions of the carriers; that what is carried, read or written, matches one to one is here.
 -- Assumes nothing.
 use Prim.Native.Nat.{ℕ, _+_, _<_, _≤_}
-use mathlib.Core.Path.{_≡_, refl}
+use mathlib.Core.Path.{_≡_, refl, _∙_}
 use mathlib.Core.List.{List}
 use mathlib.Core.Logic.{_↔_, _⊎_}
 use native.Mathlib.Omega.{arith}
@@ -16,10 +16,12 @@ use Rattle.clock.specs.declared.types.Address.{Address}
 use Rattle.clock.specs.declared.types.DayFrame.{DayFrame}
 use Rattle.clock.specs.declared.types.Numbered.the-variants.{Number, Refused as Unnumbered}
 use Rattle.clock.specs.declared.types.Placed.the-variants.{At}
-use Rattle.clock.specs.Modes.{isYes, framesInSecond, framesInDay}
 use Rattle.clock.specs.Clock.{shown}
-use Rattle.clock.specs.Calls.{numberOf, addressOf}
-use Rattle.clock.proofs.Answers.{one-to-one, address-is-shown, refused-exactly}
+use Rattle.clock.proofs.Answers.{address-is-shown, refused-exactly}
+use Rattle.clock.specs.Rates.{isYes, framesInSecond, framesInDay}
+use Rattle.modes.specs.Modes.{rateAt}
+use Rattle.modes.specs.Calls.{numberIn, addressIn}
+use Rattle.modes.proofs.Clocked.{number-at-rate, address-at-rate, one-to-one}
 use Rattle.ltc.specs.Word.{wordOf}
 use Rattle.ltc.proofs.RoundTrip as ltc
 use Rattle.vitc.specs.Line.{lineOf}
@@ -31,23 +33,24 @@ use Rattle.demands.specs.Carriers.{Carrier, linear, interval, ancillary,
 use Rattle.demands.proofs.Demand1.{linear-room, interval-room, ancillary-room}
 use Rattle.demands.proofs.Accepted.{known, allowed, acceptable-exactly}
 
--- "Frame numbers of a day and addresses match one to one, drop-frame or not": of `clock::number_of` and `clock::address_of`, in every mode.
+-- "Frame numbers of a day and addresses match one to one, drop-frame or not": of `modes::number_of` and `modes::address_of`, in every mode.
 pub numbers-and-addresses :
-    (mode : ℕ) (drop : Flag) (a : Address) (n : DayFrame) → (numberOf mode drop a ≡ Number n) ↔ (addressOf mode drop n ≡ At a)
+    (mode : ℕ) (drop : Flag) (a : Address) (n : DayFrame) → (numberIn mode drop a ≡ Number n) ↔ (addressIn mode drop n ≡ At a)
 numbers-and-addresses = one-to-one
 
 module _ {mode : ℕ} {drop : Flag} (counts : CountingMode mode drop) where
   -- every number below the day's count has an address: the one that the clock shows so many steps after midnight. Shut out: drop-frame that skips
   -- pictures rather than numbers, and calls that refuse every number.
-  pub every-number : (n : ℕ) → n < framesInDay mode (isYes drop) → addressOf mode drop (record { 0 = n }) ≡ At (shown (framesInSecond mode) (isYes drop) n)
-  every-number = address-is-shown mode drop (known counts) (allowed counts)
+  pub every-number : (n : ℕ) → n < framesInDay (rateAt mode) (isYes drop)
+      → addressIn mode drop (record { 0 = n }) ≡ At (shown (framesInSecond (rateAt mode)) (isYes drop) n)
+  every-number n low = address-at-rate mode drop (record { 0 = n }) (known counts) ∙ address-is-shown (rateAt mode) drop (allowed counts) n low
 
   -- "an address is turned away exactly when the clock, stepped from midnight by the standard's rule, never shows it". Shut out: drop-frame that skips at
   -- every minute.
   pub turned-away-exactly :
-      (a : Address) → ((numberOf mode drop a ≡ Unnumbered 8) ⊎ (numberOf mode drop a ≡ Unnumbered 9))
-      ↔ ((n : ℕ) → shown (framesInSecond mode) (isYes drop) n ≡ a → ⊥)
-  turned-away-exactly = refused-exactly mode drop (known counts) (allowed counts)
+      (a : Address) → ((numberIn mode drop a ≡ Unnumbered 8) ⊎ (numberIn mode drop a ≡ Unnumbered 9))
+      ↔ ((n : ℕ) → shown (framesInSecond (rateAt mode)) (isYes drop) n ≡ a → ⊥)
+  turned-away-exactly a = rw (number-at-rate mode drop a (known counts)) (refused-exactly (rateAt mode) drop (allowed counts) a)
 
 -- what is known of a carrier: a done write had room; what it leaves reads as its content; what reads is written again, has the carrier's size and is taken; and
 -- what is taken has elements that read as it

@@ -5,10 +5,11 @@
 -- Assumes nothing.
 use Prim.Native.Nat.{ℕ, _<_, _≤_}
 use mathlib.Core.Path.{_≡_, refl}
+use mathlib.Core.Bool.{false}
 use mathlib.Core.List.{List, []}
 use lib.ListN.{length, drop}
-use borrow.Author.Tests.{le-ltb}
 use Rattle.record.specs.declared.types.Record.{Record}
+use Rattle.modes.specs.Modes.{unknown}
 use Rattle.reader.specs.declared.types.Reader.{Reader}
 use Rattle.reader.specs.declared.types.Heard.{Heard}
 use Rattle.reader.specs.Reach.{fed, answers, Reached}
@@ -27,12 +28,12 @@ a-word-for-each mode r ok =
     let read = linear-reads mode r .1 ok in
     (record { bits = read .0; says = r; accepted = read .1 }, refl)
 
--- "Take a reader in any state that feeding can bring a fresh one to": reached by single steps over any elements, in a mode up to 2. "feed it,
+-- "Take a reader in any state that feeding can bring a fresh one to": reached by single steps over any elements, in a mode that is known. "feed it,
 -- unchanged and end to end, code words": one answer of `reader::step` for each bit. But for the first five they are 79 times nothing and then the
 -- word's own record, word after word. Shut out, with the above: a reader that refuses each word, one that never answers, one that reports one fixed
 -- address.
 pub each-word-as-itself :
-    (reader : Reader) → Reached reader → reader .mode ≤ 2 → (words : List (CodeWord (reader .mode)))
+    (reader : Reader) → Reached reader → unknown (reader .mode) ≡ false → (words : List (CodeWord (reader .mode)))
     → drop settled (answers reader (endToEnd words)) ≡ drop settled (eachAsItself words)
 each-word-as-itself = demand-3
 
@@ -41,18 +42,17 @@ each-word-as-itself = demand-3
 -- step that does all at once and later only nods.
 -- (The count of each block is `count-of-steps` in the crate `reader`.)
 pub each-word-in-blocks :
-    (reader : Reader) → Reached reader → reader .mode ≤ 2 → (words : List (CodeWord (reader .mode))) (cuts : List Cut)
+    (reader : Reader) → Reached reader → unknown (reader .mode) ≡ false → (words : List (CodeWord (reader .mode))) (cuts : List Cut)
     → AllOpen cuts → length (endToEnd words) ≤ length cuts
     → (inBlocks reader cuts (endToEnd words) .left ≡ [])
     × (inBlocks reader cuts (endToEnd words) .heard ≡ answers reader (endToEnd words))
     × (drop settled (inBlocks reader cuts (endToEnd words) .heard) ≡ drop settled (eachAsItself words))
     × (inBlocks reader cuts (endToEnd words) .reader ≡ fed reader (endToEnd words))
-each-word-in-blocks reader reached low words cuts taking enough =
-    let known = le-ltb 2 (reader .mode) low in
+each-word-in-blocks reader reached known words cuts taking enough =
     let clean = words-clean words in
     let ended = comes-to-the-end reader known reached cuts (endToEnd words) clean taking enough in
     let same = cut-to-the-end reader known reached cuts (endToEnd words) clean ended in
-    (ended, same .0, demand-3-in-blocks reader reached low words cuts ended, same .1)
+    (ended, same .0, demand-3-in-blocks reader reached known words cuts ended, same .1)
 
 -- "Earlier leftovers may still complete a false word in those first five bits": after fewer bits it could not be demanded.
 pub not-before-the-fifth : (bits : ℕ) → bits < settled → FollowsAfter bits answers → ⊥

@@ -17,8 +17,8 @@ use Rattle.clock.specs.declared.types.Placed.the-variants.{At, Refused as Unpla
 use Rattle.clock.specs.declared.types.Span.{Span}
 use Rattle.clock.specs.declared.types.Span.the-variants.{Frames, Refused as Unmeasured}
 use Rattle.clock.specs.Clock.{showing}
-use Rattle.clock.specs.Calls.{numberOf, addressOf, fieldsOf, spanOf}
 use Rattle.record.specs.declared.types.Record.{Record}
+use Rattle.modes.specs.Calls.{numberIn, addressIn, fieldsIn, spanIn}
 use Rattle.ltc.specs.Calls as ltc
 use Rattle.vitc.specs.Calls as vitc
 use Rattle.atc.specs.Calls as atc
@@ -54,40 +54,25 @@ t is m = record { told = t; must = m }
 
 -- "30 drop": the number of an address, and the address of a number
 abbrev drop30 : Address → Told
-drop30 a = ofNumbered (numberOf 2 Yes a)
+drop30 a = ofNumbered (numberIn 2 Yes a)
 
 abbrev drop30at : ℕ → Told
-drop30at n = ofPlaced (addressOf 2 Yes (record { 0 = n }))
+drop30at n = ofPlaced (addressIn 2 Yes (record { 0 = n }))
 
 -- "25": an address from its fields, and the distance from one to another
 abbrev at25 : Address → Told
-at25 a = ofPlaced (fieldsOf 1 No a)
+at25 a = ofPlaced (fieldsIn 1 No a)
 
 abbrev from25 : Address → Address → Told
-from25 a b = ofSpan (spanOf 1 No a b)
+from25 a b = ofSpan (spanIn 1 No a b)
 
 -- "10:01:00;02, groups and flags 0 but drop"
 abbrev theRecord : Record
 theRecord =
     record {
-      hours = 10;
-      minutes = 1;
-      seconds = 0;
-      frames = record { 0 = 2 };
-      drop = Yes;
-      colour = No;
-      mark = No;
-      bgf0 = No;
-      bgf1 = No;
-      bgf2 = No;
-      group1 = 0;
-      group2 = 0;
-      group3 = 0;
-      group4 = 0;
-      group5 = 0;
-      group6 = 0;
-      group7 = 0;
-      group8 = 0;
+      address = showing 10 1 0 2;
+      flags = record { drop = Yes; colour = No; mark = No; bgf0 = No; bgf1 = No; bgf2 = No };
+      groups = record { group1 = 0; group2 = 0; group3 = 0; group4 = 0; group5 = 0; group6 = 0; group7 = 0; group8 = 0 };
     }
 
 -- what a write of it leaves in a lent run of zeros: as LTC, on VITC, as ATC type 1, second byte 0

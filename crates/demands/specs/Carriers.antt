@@ -6,18 +6,16 @@ use mathlib.Core.Path.{_≡_}
 use mathlib.Core.List.{List}
 use mathlib.Core.Logic.{_↔_, _⊎_}
 use lib.ListN.{length}
+use Rattle.runs.specs.declared.types.Written.the-variants.{Done, Refused}
 use Rattle.runs.specs.Run.{placed}
 use Rattle.clock.specs.declared.types.Flag.the-variants.{No}
 use Rattle.record.specs.declared.types.Record.{Record}
 use Rattle.record.specs.declared.types.Unpacked.the-variants.{Holds}
 use Rattle.ltc.specs.Calls as ltc
-use Rattle.ltc.specs.declared.writing.Written.the-variants.{Done as LtcDone, Refused as LtcRefused}
 use Rattle.vitc.specs.Calls as vitc
-use Rattle.vitc.specs.declared.writing.Written.the-variants.{Done as VitcDone, Refused as VitcRefused}
 use Rattle.atc.specs.declared.types.Contents.{Contents}
 use Rattle.atc.specs.Calls as atc
 use Rattle.atc.specs.declared.types.Packet.the-variants.{Holds as Carries}
-use Rattle.atc.specs.declared.types.Written.the-variants.{Done as AtcDone, Refused as AtcRefused}
 use Rattle.demands.specs.Records.{Acceptable}
 
 -- What is needed of the bounds that the types of a carrier's calls set; what it takes, by mode; and what its calls promise: that a write of a content from a
@@ -37,9 +35,9 @@ linear =
     record {
       size = 80;
       Given = λ r. Unit {0};
-      Accepts = λ mode r. Acceptable mode r × (r .mark ≡ No);
-      Writes = λ mode r start run. ltc.writtenOf mode r start run ≡ LtcDone;
-      Refuses = λ mode r start run number. ltc.writtenOf mode r start run ≡ LtcRefused number;
+      Accepts = λ mode r. Acceptable mode r × (r .flags .mark ≡ No);
+      Writes = λ mode r start run. ltc.writtenOf mode r start run ≡ Done;
+      Refuses = λ mode r start run number. ltc.writtenOf mode r start run ≡ Refused number;
       leaves = ltc.runOf;
       Reads = λ mode word r. ltc.readOf mode word ≡ Holds r;
     }
@@ -51,8 +49,8 @@ interval =
       size = 90;
       Given = λ r. Unit {0};
       Accepts = λ mode r. Acceptable mode r;
-      Writes = λ mode r start run. vitc.writtenOf mode r start run ≡ VitcDone;
-      Refuses = λ mode r start run number. vitc.writtenOf mode r start run ≡ VitcRefused number;
+      Writes = λ mode r start run. vitc.writtenOf mode r start run ≡ Done;
+      Refuses = λ mode r start run number. vitc.writtenOf mode r start run ≡ Refused number;
       leaves = vitc.runOf;
       Reads = λ mode line r. vitc.readOf mode line ≡ Holds r;
     }
@@ -64,8 +62,8 @@ ancillary =
       size = 23;
       Given = λ c. c .second < 256;
       Accepts = λ mode c. Acceptable mode (c .«record») × (c .«payload_type» ≤ 2) × (c .second < 256);
-      Writes = λ mode c start run. (c .second < 256) × (atc.writtenOf mode (c .«record») (c .«payload_type») start run ≡ AtcDone);
-      Refuses = λ mode c start run number. atc.writtenOf mode (c .«record») (c .«payload_type») start run ≡ AtcRefused number;
+      Writes = λ mode c start run. (c .second < 256) × (atc.writtenOf mode (c .«record») (c .«payload_type») start run ≡ Done);
+      Refuses = λ mode c start run number. atc.writtenOf mode (c .«record») (c .«payload_type») start run ≡ Refused number;
       leaves = λ mode c. atc.runOf mode (c .«record») (c .«payload_type») (c .second);
       Reads = λ mode words c. atc.readOf mode words ≡ Carries c;
     }

@@ -6,7 +6,8 @@ use mathlib.Core.Bool.{cond}
 use mathlib.Core.List.{List, [], _∷_, _++_}
 use lib.Dec.{ltb}
 use Rattle.clock.specs.declared.types.Flag.{Flag}
-use Rattle.clock.specs.Modes.{isYes}
+use Rattle.clock.specs.Rates.{isYes}
+use Rattle.record.specs.declared.types.Groups.{Groups}
 use Rattle.record.specs.declared.types.Record.{Record}
 use Rattle.reader.specs.declared.types.Heard.{Heard}
 use Rattle.reader.specs.declared.types.Heard.the-variants.{Nothing, Accepted, Refused}
@@ -57,22 +58,22 @@ beforeFrames drop = cond (isYes drop) semicolon colon
 
 unfoldable pub addressText : Record → List ℕ
 addressText r =
-    twoDigits (r .hours)
-    ++ (colon ∷ twoDigits (r .minutes))
-    ++ (colon ∷ twoDigits (r .seconds))
-    ++ (beforeFrames (r .drop) ∷ twoDigits (r .frames .0))
+    twoDigits (r .address .hours)
+    ++ (colon ∷ twoDigits (r .address .minutes))
+    ++ (colon ∷ twoDigits (r .address .seconds))
+    ++ (beforeFrames (r .flags .drop) ∷ twoDigits (r .address .frames .0))
 
 -- "groups 1 to 8 in upper-case hex"
-unfoldable pub groupsText : Record → List ℕ
-groupsText r =
-    hexDigit (r .group1)
-    ∷ hexDigit (r .group2)
-    ∷ hexDigit (r .group3)
-    ∷ hexDigit (r .group4)
-    ∷ hexDigit (r .group5)
-    ∷ hexDigit (r .group6)
-    ∷ hexDigit (r .group7)
-    ∷ hexDigit (r .group8)
+unfoldable pub groupsText : Groups → List ℕ
+groupsText g =
+    hexDigit (g .group1)
+    ∷ hexDigit (g .group2)
+    ∷ hexDigit (g .group3)
+    ∷ hexDigit (g .group4)
+    ∷ hexDigit (g .group5)
+    ∷ hexDigit (g .group6)
+    ∷ hexDigit (g .group7)
+    ∷ hexDigit (g .group8)
     ∷ []
 
 -- refused, letter by letter
@@ -85,7 +86,7 @@ theWordEnd = 101 ∷ 110 ∷ 100 ∷ []
 
 -- what follows the bits so far, up to the line feed
 unfoldable pub acceptedText : Record → List ℕ
-acceptedText r = (space ∷ addressText r) ++ ((space ∷ groupsText r) ++ (lineFeed ∷ []))
+acceptedText r = (space ∷ addressText r) ++ ((space ∷ groupsText (r .groups)) ++ (lineFeed ∷ []))
 
 unfoldable pub refusedText : ℕ → List ℕ
 refusedText number = (space ∷ theWordRefused) ++ ((space ∷ decimal number) ++ (lineFeed ∷ []))

@@ -20,10 +20,7 @@ fn lay(text: &[u8], out: &mut [u8], at: usize) -> usize
 pub fn append(text: &[u8], out: &mut [u8], at: usize) -> usize
     ensures { λ r. ⌜ (r ≡ placeAfter (now (text .entry)) at (now (out .entry))) × (now (out .exit) ≡ outAfter (now (text .entry)) at (now (out .entry))) ⌝ }
 {
-    if out.len() < at {
-        return at;
-    }
-    if out.len() - at < text.len() {
+    if runs::lacks_room(text.len(), at, out.len()) {
         return at;
     }
     lay(text, out, at)

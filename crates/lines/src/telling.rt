@@ -9,9 +9,12 @@ ghost use Rattle.lines.specs.Lines.{acceptedText, refusedText, lineOf, e
 use crate::digits::append_decimal;
 use crate::digits::hex_digit;
 use crate::laying::append;
+use clock::Address;
 use clock::Flag;
 use clock::SecondFrame;
 use reader::Heard;
+use record::Flags;
+use record::Groups;
 use record::Record;
 
 // Room for any line. The longest has 42 characters: 20 digits of bits so far, 11 of an address, 8 of groups, two spaces and a line feed.
@@ -49,24 +52,26 @@ fn clock_text(hours: u8, minutes: u8, seconds: u8, mark: u8, frames: SecondFrame
 fn address_text(r: Record) -> [u8; 12]
     ensures { λ a. ⌜ a ≡ space ∷ addressText r ⌝ }
 {
-    let frames = r.frames;
-    let drop = r.drop;
-    clock_text(r.hours, r.minutes, r.seconds, before_frames(drop), frames)
+    let a = r.address;
+    let flags = r.flags;
+    let frames = a.frames;
+    let drop = flags.drop;
+    clock_text(a.hours, a.minutes, a.seconds, before_frames(drop), frames)
 }
 
-fn groups_text(r: Record) -> [u8; 10]
-    ensures { λ a. ⌜ a ≡ (space ∷ groupsText r) ++ (lineFeed ∷ []) ⌝ }
+fn groups_text(g: Groups) -> [u8; 10]
+    ensures { λ a. ⌜ a ≡ (space ∷ groupsText g) ++ (lineFeed ∷ []) ⌝ }
 {
     [
         b' ',
-        hex_digit(r.group1),
-        hex_digit(r.group2),
-        hex_digit(r.group3),
-        hex_digit(r.group4),
-        hex_digit(r.group5),
-        hex_digit(r.group6),
-        hex_digit(r.group7),
-        hex_digit(r.group8),
+        hex_digit(g.group1),
+        hex_digit(g.group2),
+        hex_digit(g.group3),
+        hex_digit(g.group4),
+        hex_digit(g.group5),
+        hex_digit(g.group6),
+        hex_digit(g.group7),
+        hex_digit(g.group8),
         b'\n',
     ]
 }
@@ -76,7 +81,8 @@ fn lay_accepted(r: Record, text: &mut [u8], at: usize) -> usize
     ensures { λ n. ⌜ (n ≡ at + length (acceptedText r)) × (now (text .exit) ≡ placed at (acceptedText r) (now (text .entry))) ⌝ }
 {
     let address = address_text(r);
-    let groups = groups_text(r);
+    let eight = r.groups;
+    let groups = groups_text(eight);
     let middle = append(&address, text, at);
     append(&groups, text, middle)
 }

@@ -7,14 +7,17 @@ use mathlib.Core.Bool.{false}
 use mathlib.Core.List.{List, [], _∷_, _++_, map}
 use native.Mathlib.Omega.{arith}
 use lib.ListN.{getD, List·getD-append}
+use Rattle.refusals.specs.Table.{outside-the-clock}
+use Rattle.refusals.proofs.ByNumber.{clear-from}
 use Rattle.bits.specs.Bits.{toBits, someAbove}
 use Rattle.bits.proofs.Bit.{head-within, tail-within, length-toBits}
 use Rattle.bits.proofs.Neighbours.{Each, Digit, Small, bit-at, not-both}
 use Rattle.record.specs.declared.types.Record.{Record}
 use Rattle.record.specs.declared.types.Unpacked.the-variants.{Holds}
 use Rattle.record.proofs.Digits.{digits, small-digits}
+use Rattle.modes.specs.Modes.{rateAt}
 use Rattle.ltc.specs.Word.{syncWord, wordWith, infoIn}
-use Rattle.ltc.specs.Calls.{readOf}
+use Rattle.ltc.specs.Calls.{readRefusals, readOf}
 use Rattle.ltc.proofs.RoundTrip.{read-clear, whole}
 
 -- the lower of a digit's top two bits
@@ -51,5 +54,5 @@ pub apart : (mode : ℕ) (r : Record) (word : List ℕ) → readOf mode word ≡
 unfolding someAbove
 apart mode r word e =
     let clear = read-clear mode r word e .0 in
-    let small = small-digits mode (infoIn word) (clear .1 .1 .1 .1 .1) in
+    let small = small-digits (rateAt mode) (infoIn word) (clear-from outside-the-clock (readRefusals mode word) clear) in
     rw (whole mode word clear) (in-digits (infoIn word) digits small refl (65 ∷ 77 ∷ []) (in-sync (infoIn word)))

@@ -9,14 +9,17 @@ use borrow.Author.Tests.{eqb-true, eqb-false, eq-eqb, ne-eqb}
 use Rattle.clock.specs.declared.types.Flag.{Flag}
 use Rattle.clock.specs.declared.types.Flag.the-variants.{No, Yes}
 use Rattle.record.specs.declared.types.Record.{Record}
-use Rattle.record.specs.Record.{infoOf, marked}
+use Rattle.record.specs.Flags.{places}
+use Rattle.record.specs.Record.{marked}
 use Rattle.record.specs.Fits.{Writable}
-use Rattle.record.proofs.RoundTrip.{info-below, mark-counts, marked-writable}
+use Rattle.record.proofs.RoundTrip.{info-below, mark-adds, mark-counts}
+use Rattle.modes.specs.Modes.{rateAt}
+use Rattle.modes.specs.Calls.{informationIn}
 use Rattle.ltc.specs.Word.{wordWith, oddZeros, correctedOf}
 use Rattle.ltc.proofs.Zeros.{odd-by-count}
 
 -- a record whose mark is no, said so anew, is itself
-pub marked-same : (r : Record) (mark : Flag) → r .mark ≡ mark → marked mark r ≡ r
+pub marked-same : (r : Record) (mark : Flag) → r .flags .mark ≡ mark → marked mark r ≡ r
 marked-same r mark e = λ i. marked (sym e i) r
 
 -- one more one turns the zeros about
@@ -30,34 +33,41 @@ turned-back a b ha hb more even =
     let was : (67 - counted a) % 2 ≡ 1 → ⊥ = eqb-false _ _ (odd-by-count a ha ∙ even) in
     sym (odd-by-count b hb) ∙ eq-eqb ((67 - counted b) % 2) 1 (omega (arith, ones-le 64 a ha, ones-le 64 b hb))
 
-module _ (mode : ℕ) (r : Record) (fits : Writable r) (unset : r .mark ≡ No) where
-  plain : infoOf mode (marked No r) ≡ infoOf mode r
-  plain = ap (infoOf mode) (marked-same r No unset)
+module _ (mode : ℕ) (r : Record) (fits : Writable (r .address) (r .groups)) (unset : r .flags .mark ≡ No) where
+  plain : informationIn mode (marked No r) ≡ informationIn mode r
+  plain = ap (informationIn mode) (marked-same r No unset)
 
-  more : counted (infoOf mode (marked Yes r)) ≡ counted (infoOf mode r) + 1
-  more = mark-counts mode r fits ∙ ap (λ (n : ℕ). counted n + 1) plain
+  more : counted (informationIn mode (marked Yes r)) ≡ counted (informationIn mode r) + 1
+  more = mark-counts (rateAt mode) r fits ∙ ap (λ (n : ℕ). counted n + 1) plain
+
+  -- setting the polarity bit adds the value of its place, and leaves 64 bits
+  pub set-adds : informationIn mode (marked Yes r) ≡ informationIn mode r + 2 ^ places (rateAt mode) .mark
+  set-adds = mark-adds (rateAt mode) r ∙ ap (λ (n : ℕ). n + 2 ^ places (rateAt mode) .mark) plain
+
+  pub set-below : informationIn mode r + 2 ^ places (rateAt mode) .mark < 2 ^ 64
+  set-below = rw (← set-adds) (info-below (rateAt mode) (marked Yes r) fits)
 
   -- the mark that the word of a record has
-  pub polarity : (mark : Flag) × (correctedOf mode r ≡ infoOf mode (marked mark r)) × (oddZeros (wordWith (correctedOf mode r)) ≡ false)
-  polarity = go (oddZeros (wordWith (infoOf mode r))) refl
+  pub polarity : (mark : Flag) × (correctedOf mode r ≡ informationIn mode (marked mark r)) × (oddZeros (wordWith (correctedOf mode r)) ≡ false)
+  polarity = go (oddZeros (wordWith (informationIn mode r))) refl
     where
-      low : (mark : Flag) → infoOf mode (marked mark r) < 2 ^ 64
-      low mark = info-below mode (marked mark r) (marked-writable mode r fits mark)
+      low : (mark : Flag) → informationIn mode (marked mark r) < 2 ^ 64
+      low mark = info-below (rateAt mode) (marked mark r) fits
 
-      go : (odd : Bool) → oddZeros (wordWith (infoOf mode r)) ≡ odd
-          → (mark : Flag) × (correctedOf mode r ≡ infoOf mode (marked mark r)) × (oddZeros (wordWith (correctedOf mode r)) ≡ false)
-      go true e = (Yes, rw e, rw e (turned (infoOf mode (marked Yes r)) (infoOf mode r) (low Yes) (info-below mode r fits) more e))
+      go : (odd : Bool) → oddZeros (wordWith (informationIn mode r)) ≡ odd
+          → (mark : Flag) × (correctedOf mode r ≡ informationIn mode (marked mark r)) × (oddZeros (wordWith (correctedOf mode r)) ≡ false)
+      go true e = (Yes, rw e, rw e (turned (informationIn mode (marked Yes r)) (informationIn mode r) (low Yes) (info-below (rateAt mode) r fits) more e))
       go false e = (No, rw e (sym plain), rw e e)
 
   -- a word with even zeros whose record differs from r in its mark at most is the word of r
-  pub only-polarity : (n : ℕ) (mark : Flag) → infoOf mode (marked mark r) ≡ n → oddZeros (wordWith n) ≡ false → correctedOf mode r ≡ n
+  pub only-polarity : (n : ℕ) (mark : Flag) → informationIn mode (marked mark r) ≡ n → oddZeros (wordWith n) ≡ false → correctedOf mode r ≡ n
   only-polarity n No e even =
-      let same : infoOf mode r ≡ n = sym plain ∙ e in
-      let already : oddZeros (wordWith (infoOf mode r)) ≡ false = rw same even in
+      let same : informationIn mode r ≡ n = sym plain ∙ e in
+      let already : oddZeros (wordWith (informationIn mode r)) ≡ false = rw same even in
       rw already same
   only-polarity n Yes e even =
-      let set = infoOf mode (marked Yes r) in
-      let low = info-below mode (marked Yes r) (marked-writable mode r fits Yes) in
+      let set = informationIn mode (marked Yes r) in
+      let low = info-below (rateAt mode) (marked Yes r) fits in
       let evened : oddZeros (wordWith set) ≡ false = rw e even in
-      let odd : oddZeros (wordWith (infoOf mode r)) ≡ true = turned-back set (infoOf mode r) low (info-below mode r fits) more evened in
+      let odd : oddZeros (wordWith (informationIn mode r)) ≡ true = turned-back set (informationIn mode r) low (info-below (rateAt mode) r fits) more evened in
       rw odd e

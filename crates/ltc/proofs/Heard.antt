@@ -7,7 +7,7 @@ use mathlib.Core.List.{List, _++_}
 use native.Mathlib.Omega.{arith}
 use lib.ListN.{length, take, drop, length-drop, take-append-drop}
 use lib.Seq.{length-take-le}
-use Rattle.refusals.proofs.Lowest.{carried}
+use Rattle.refusals.proofs.Answered.{carried}
 use Rattle.bits.specs.Bits.{value, toBits, someAbove}
 use Rattle.bits.proofs.Bit.{above-append}
 use Rattle.bits.proofs.Inverse.{toBits-value}
@@ -16,20 +16,21 @@ use Rattle.runs.proofs.Same.{not-same}
 use Rattle.clock.specs.declared.types.Flag.the-variants.{No}
 use Rattle.record.specs.declared.types.Unpacked.{Unpacked}
 use Rattle.record.specs.declared.types.Unpacked.the-variants.{Holds, Refused as Unheld}
-use Rattle.record.specs.Record.{recordOf, marked}
-use Rattle.record.specs.Calls.{bitsRefusals, withMode, unpackedOf}
+use Rattle.record.specs.Record.{marked}
+use Rattle.modes.specs.Calls.{recordIn, bitsRefusalsIn, unpackedIn}
+use Rattle.modes.specs.Modes.{withMode}
 use Rattle.ltc.specs.Word.{syncWord, wordWith, infoIn, oddZeros}
 use Rattle.ltc.specs.Calls.{heardOf}
 
 -- an answer with the mark taken off its record
-abbrev pub unmarked : Unpacked → Unpacked
-unmarked (Holds r) = Holds (marked No r)
-unmarked (Unheld n) = Unheld n
+abbrev pub withoutMark : Unpacked → Unpacked
+withoutMark (Holds r) = Holds (marked No r)
+withoutMark (Unheld n) = Unheld n
 
 -- where the zeros are even, what is heard is what the record says, the mark taken off
-pub heard-is : (mode info : ℕ) → oddZeros (wordWith info) ≡ false → heardOf mode info ≡ unmarked (unpackedOf mode info)
-unfolding heardOf unpackedOf
-heard-is mode info even = rw even (sym (carried unmarked Unheld (Holds (recordOf mode info)) (withMode mode (bitsRefusals mode info))))
+pub heard-is : (mode info : ℕ) → oddZeros (wordWith info) ≡ false → heardOf mode info ≡ withoutMark (unpackedIn mode info)
+unfolding heardOf unpackedIn
+heard-is mode info even = rw even (sym (carried withoutMark Unheld (Holds (recordIn mode info)) (withMode mode (bitsRefusalsIn mode info))))
 
 module _ (word : List ℕ) (long : length word ≡ 80) where
   -- the two parts of a word

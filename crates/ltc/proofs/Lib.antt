@@ -2,13 +2,11 @@
 -- Heard     a word with its sync word is heard as its information bits
 pub mod Zeros
 pub mod Heard
--- Marked    a mark said anew changes no refusal
-pub mod Marked
 -- Words     a word has 80 elements, and is stored as its two parts
 pub mod Words
 -- Evened    the polarity bit makes the zeros even, and only one of its two values does
 pub mod Evened
--- Rows      the lists of refusals stand in the table's order
+-- Rows      the lists of refusals follow the table's order
 pub mod Rows
 -- ReadTests what each test of a read leads to
 pub mod ReadTests

@@ -1,25 +1,25 @@
 -- What each test of a read leads to: the row of the list that applies, or what the information bits are heard as.
 -- Assumes nothing.
 use mathlib.Core.Path.{_≡_, ap, sym, _∙_}
-use mathlib.Core.Bool.{true, false, or-true}
+use mathlib.Core.Bool.{Bool, true, false, or-true}
 use Prim.Native.Nat.{ℕ}
 use mathlib.Core.List.{List}
 use mathlib.Core.Logic.{_⊎_, inl, inr}
 use native.Mathlib.Omega.{arith}
-use lib.Dec.{ltb}
 use lib.ListN.{length, take, drop}
 use lib.Seq.{take-all}
 use denote.Enum.Declared.{tagOf}
 use borrow.Author.Tests.{eq-eqb, ne-eqb}
 use Rattle.bits.specs.Bits.{value, someAbove}
-use Rattle.runs.specs.declared.carry.Gathered.{Gathered}
-use Rattle.runs.specs.declared.carry.Gathered.the-variants.{Number}
+use Rattle.runs.specs.declared.types.Gathered.{Gathered}
+use Rattle.runs.specs.declared.types.Gathered.the-variants.{Number}
 use Rattle.runs.specs.Gather.{gatheredOf}
 use Rattle.runs.specs.Run.{same}
-use Rattle.runs.proofs.carry.Gathered.{the-type}
+use Rattle.runs.proofs.types.Gathered.{the-type}
 use Rattle.runs.proofs.Same.{same-itself, gathered-is, not-gathered}
 use Rattle.record.specs.declared.types.Unpacked.{Unpacked}
 use Rattle.record.specs.declared.types.Unpacked.the-variants.{Refused as Unheld}
+use Rattle.modes.specs.Modes.{unknown}
 use Rattle.ltc.specs.Word.{syncWord, infoIn, wordWith, oddZeros}
 use Rattle.ltc.specs.Calls.{readOf, heardOf}
 use Rattle.ltc.proofs.Heard.{low-length, high-length, above-in-parts, sync-by-number, other-sync, word-is}
@@ -38,12 +38,16 @@ module _ (mode : ℕ) (word : List ℕ) where
   wrong-size other = rw (ne-eqb (length word) 80 other)
 
   module _ (long : length word ≡ 80) where
-    pub no-mode : ltb 2 mode ≡ true → Unheld 2 ≡ readOf mode word
+    pub no-mode : (past : Bool) → past ≡ unknown mode → past ≡ true → Unheld 2 ≡ readOf mode word
     unfolding readOf
-    no-mode e = rw (eq-eqb (length word) 80 long, e)
+    no-mode past asked e = rw (eq-eqb (length word) 80 long, ← asked, e)
 
-    module _ (known : ltb 2 mode ≡ false) (low high : Gathered)
+    module _
+        (past : Bool) (asked : past ≡ unknown mode) (within : past ≡ false) (low high : Gathered)
         (first : low ≡ gatheredOf (take 64 word)) (last : high ≡ gatheredOf (take 16 (drop 64 word))) where
+      known : unknown mode ≡ false
+      known = sym asked ∙ within
+
       high-part : take 16 (drop 64 word) ≡ drop 64 word
       high-part = take-all 16 (drop 64 word) (omega (arith, high-length word long))
 

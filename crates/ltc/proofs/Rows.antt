@@ -1,18 +1,20 @@
--- "The lowest that applies is given": the lists of the calls stand in rising order, as in the table.
+-- "The lowest that applies is given": the lists of the calls follow the table's order.
 -- Assumes nothing.
 use Prim.Native.Nat.{ℕ}
+use mathlib.Core.Path.{_≡_, refl}
+use mathlib.Core.Bool.{true}
 use mathlib.Core.List.{List}
-use native.Mathlib.Omega.{arith}
-use Rattle.refusals.specs.Answer.{Rising}
+use Rattle.refusals.specs.Table.{theOrder}
+use Rattle.refusals.specs.Answer.{inOrder}
 use Rattle.record.specs.declared.types.Record.{Record}
 use Rattle.ltc.specs.Calls.{readRefusals, heardRefusals, writtenRows}
 
-pub read-rows-rise : (mode : ℕ) (word : List ℕ) → Rising (readRefusals mode word)
-read-rows-rise mode word = (omega arith, (omega arith, (omega arith, (omega arith, omega arith))))
+pub read-rows-in-order : (mode : ℕ) (word : List ℕ) → inOrder theOrder (readRefusals mode word) ≡ true
+read-rows-in-order mode word = refl
 
-pub heard-rows-rise : (mode info : ℕ) → Rising (heardRefusals mode info)
-heard-rows-rise mode info = omega arith
+pub heard-rows-in-order : (mode info : ℕ) → inOrder theOrder (heardRefusals mode info) ≡ true
+heard-rows-in-order mode info = refl
 
-pub written-rows-rise : (mode : ℕ) (r : Record) (start : ℕ) (run : List ℕ) → Rising (writtenRows mode r start run)
+pub written-rows-in-order : (mode : ℕ) (r : Record) (start : ℕ) (run : List ℕ) → inOrder theOrder (writtenRows mode r start run) ≡ true
 unfolding writtenRows
-written-rows-rise mode r start run = omega arith
+written-rows-in-order mode r start run = refl

@@ -3,50 +3,51 @@
 use Prim.Native.Nat.{ℕ}
 use mathlib.Core.Bool.{not}
 use mathlib.Core.List.{List, [], _∷_, _++_}
-use lib.Dec.{ltb, eqb}
+use lib.Dec.{eqb}
 use lib.ListN.{length, drop}
-use Rattle.refusals.specs.Table.{wrong-length, mode-above-2, element-too-high, wrong-sync, wrong-check, mark-set, no-room}
+use Rattle.refusals.specs.Table.{wrong-length, unknown-mode, element-too-high, wrong-sync, wrong-check, mark-set, no-room}
 use Rattle.refusals.specs.Answer.{Refusal, _when_, answer}
 use Rattle.bits.specs.Bits.{someAbove}
-use Rattle.runs.specs.Run.{noRoom, runAfter, same}
+use Rattle.runs.specs.Run.{noRoom, writtenBy, runAfter, same}
 use Rattle.clock.specs.declared.types.Flag.the-variants.{No}
-use Rattle.clock.specs.Modes.{isYes}
+use Rattle.clock.specs.Rates.{isYes}
 use Rattle.record.specs.declared.types.Record.{Record}
 use Rattle.record.specs.declared.types.Unpacked.{Unpacked}
 use Rattle.record.specs.declared.types.Unpacked.the-variants.{Holds, Refused as Unheld}
-use Rattle.record.specs.Record.{recordOf, marked}
-use Rattle.record.specs.Calls.{bitsRefusals, writeRefusals, withMode}
-use Rattle.ltc.specs.declared.writing.Written.{Written}
-use Rattle.ltc.specs.declared.writing.Written.the-variants.{Done, Refused as Unwritten}
+use Rattle.record.specs.Record.{marked}
+use Rattle.runs.specs.declared.types.Written.{Written}
+use Rattle.modes.specs.Calls.{recordIn, bitsRefusalsIn, writeRefusalsIn}
+use Rattle.modes.specs.Modes.{unknown, withMode}
 use Rattle.ltc.specs.Word.{syncWord, wordWith, infoIn, oddZeros, wordOf}
 
--- reading: 1 not exactly 80 elements; 2 mode above 2; 3 an element above 1; 4 another sync word; 5 odd zeros; then the record's
+-- reading: 1 not exactly 80 elements; 2 the mode; 3 an element above 1; 4 another sync word; 5 odd zeros; then the record's
 abbrev pub readRefusals : ℕ → List ℕ → List Refusal
 readRefusals mode word =
     (wrong-length when not (eqb (length word) 80))
-    ∷ (mode-above-2 when ltb 2 mode)
+    ∷ (unknown-mode when unknown mode)
     ∷ (element-too-high when someAbove 1 word)
     ∷ (wrong-sync when not (same (drop 64 word) syncWord))
     ∷ (wrong-check when oddZeros word)
-    ∷ bitsRefusals mode (infoIn word)
+    ∷ bitsRefusalsIn mode (infoIn word)
 
 unfoldable pub readOf : ℕ → List ℕ → Unpacked
-readOf mode word = answer Unheld (readRefusals mode word) (Holds (marked No (recordOf mode (infoIn word))))
+readOf mode word = answer Unheld (readRefusals mode word) (Holds (marked No (recordIn mode (infoIn word))))
 
 -- the same of 64 information bits after which the sync word has been seen
 abbrev pub heardRefusals : ℕ → ℕ → List Refusal
-heardRefusals mode info = withMode mode ((wrong-check when oddZeros (wordWith info)) ∷ bitsRefusals mode info)
+heardRefusals mode info = withMode mode ((wrong-check when oddZeros (wordWith info)) ∷ bitsRefusalsIn mode info)
 
 unfoldable pub heardOf : ℕ → ℕ → Unpacked
-heardOf mode info = answer Unheld (heardRefusals mode info) (Holds (marked No (recordOf mode info)))
+heardOf mode info = answer Unheld (heardRefusals mode info) (Holds (marked No (recordIn mode info)))
 
 -- writing: 2; 8, 9 and 10 of the record; 11 a mark; 12 no room for 80 elements from the start
 unfoldable pub writtenRows : ℕ → Record → ℕ → List ℕ → List Refusal
 writtenRows mode r start run =
-    withMode mode (writeRefusals mode r ++ ((mark-set when isYes (r .mark)) ∷ (no-room when noRoom 80 start run) ∷ []))
+    withMode mode
+    (writeRefusalsIn mode r ++ ((mark-set when isYes (r .flags .mark)) ∷ (no-room when noRoom 80 start (length run)) ∷ []))
 
 unfoldable pub writtenOf : ℕ → Record → ℕ → List ℕ → Written
-writtenOf mode r start run = answer Unwritten (writtenRows mode r start run) Done
+writtenOf mode r start run = writtenBy (writtenRows mode r start run)
 
 -- the lent run as a write leaves it
 unfoldable pub runOf : ℕ → Record → ℕ → List ℕ → List ℕ

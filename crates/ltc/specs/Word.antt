@@ -9,7 +9,8 @@ use lib.ListN.{take}
 use Rattle.bits.specs.Bits.{value, toBits, zerosIn}
 use Rattle.clock.specs.declared.types.Flag.the-variants.{Yes}
 use Rattle.record.specs.declared.types.Record.{Record}
-use Rattle.record.specs.Record.{infoOf, marked}
+use Rattle.record.specs.Record.{marked}
+use Rattle.modes.specs.Calls.{informationIn}
 
 unfoldable pub syncWord : List ℕ
 syncWord = 0 ∷ 0 ∷ 1 ∷ 1 ∷ 1 ∷ 1 ∷ 1 ∷ 1 ∷ 1 ∷ 1 ∷ 1 ∷ 1 ∷ 1 ∷ 1 ∷ 0 ∷ 1 ∷ []
@@ -27,7 +28,7 @@ oddZeros word = eqb (zerosIn word % 2) 1
 
 -- the polarity bit is set where the zeros would else be odd
 abbrev pub correctedOf : ℕ → Record → ℕ
-correctedOf mode r = cond (oddZeros (wordWith (infoOf mode r))) (infoOf mode (marked Yes r)) (infoOf mode r)
+correctedOf mode r = cond (oddZeros (wordWith (informationIn mode r))) (informationIn mode (marked Yes r)) (informationIn mode r)
 
 -- the word of a record
 unfoldable pub wordOf : ℕ → Record → List ℕ

@@ -1,8 +1,12 @@
 // "All 80 bits must hold an even number of zeros": the sync word has three zeros and thirteen ones.
 ghost use mathlib.Core.Path.{_≡_};
+ghost use Rattle.clock.specs.declared.types.Flag.the-variants.{No};
 ghost use Rattle.record.specs.Record.{marked};
 ghost use Rattle.ltc.specs.Word.{wordWith, oddZeros};
+use clock::Address;
 use clock::Flag;
+use record::Flags;
+use record::Groups;
 use record::Record;
 
 pub fn has_odd_zeros(info: u64) -> bool
@@ -12,33 +16,28 @@ pub fn has_odd_zeros(info: u64) -> bool
     zeros % 2 == 1
 }
 
-pub fn with_mark(r: Record, mark: Flag) -> Record
-    ensures { λ s. ⌜ s ≡ marked mark r ⌝ }
+// "Reading gives a record with mark 0": the polarity bit is no mark of the record.
+pub fn unmarked(r: Record) -> Record
+    ensures { λ s. ⌜ s ≡ marked No r ⌝ }
 {
-    let frames = r.frames;
-    let drop = r.drop;
-    let colour = r.colour;
-    let bgf0 = r.bgf0;
-    let bgf1 = r.bgf1;
-    let bgf2 = r.bgf2;
+    let address = r.address;
+    let flags = r.flags;
+    let groups = r.groups;
+    let drop = flags.drop;
+    let colour = flags.colour;
+    let bgf0 = flags.bgf0;
+    let bgf1 = flags.bgf1;
+    let bgf2 = flags.bgf2;
     Record {
-        hours: r.hours,
-        minutes: r.minutes,
-        seconds: r.seconds,
-        frames,
-        drop,
-        colour,
-        mark,
-        bgf0,
-        bgf1,
-        bgf2,
-        group1: r.group1,
-        group2: r.group2,
-        group3: r.group3,
-        group4: r.group4,
-        group5: r.group5,
-        group6: r.group6,
-        group7: r.group7,
-        group8: r.group8,
+        address,
+        flags: Flags {
+            drop,
+            colour,
+            mark: Flag::No,
+            bgf0,
+            bgf1,
+            bgf2,
+        },
+        groups,
     }
 }

@@ -2,8 +2,7 @@
 ghost use mathlib.Core.Path.{_≡_};
 ghost use Rattle.ltc.specs.Calls.{readOf, heardOf};
 use crate::polarity::has_odd_zeros;
-use crate::polarity::with_mark;
-use clock::Flag;
+use crate::polarity::unmarked;
 use record::Unpacked;
 use runs::Gathered;
 
@@ -11,17 +10,17 @@ use runs::Gathered;
 pub fn read_info(mode: u8, info: u64) -> Unpacked
     ensures { λ r. ⌜ r ≡ heardOf mode info ⌝ }
 {
-    let unknown = 2 < mode;
+    let unknown = modes::is_unknown(mode);
     if unknown {
-        return Unpacked::Refused(refusals::MODE_ABOVE_2);
+        return Unpacked::Refused(refusals::UNKNOWN_MODE);
     }
     if has_odd_zeros(info) {
         return Unpacked::Refused(refusals::WRONG_CHECK);
     }
-    let found = record::from_bits(mode, info);
+    let found = modes::from_bits(mode, info);
     match found {
         Unpacked::Refused(number) => Unpacked::Refused(number),
-        Unpacked::Holds(held) => Unpacked::Holds(with_mark(held, Flag::No)),
+        Unpacked::Holds(held) => Unpacked::Holds(unmarked(held)),
     }
 }
 
@@ -31,9 +30,9 @@ pub fn read(mode: u8, word: &[u8]) -> Unpacked
     if word.len() != 80 {
         return Unpacked::Refused(refusals::WRONG_LENGTH);
     }
-    let unknown = 2 < mode;
+    let unknown = modes::is_unknown(mode);
     if unknown {
-        return Unpacked::Refused(refusals::MODE_ABOVE_2);
+        return Unpacked::Refused(refusals::UNKNOWN_MODE);
     }
     let low = runs::gather(&word[0..64]);
     let high = runs::gather(&word[64..80]);

@@ -8,6 +8,7 @@ use native.Mathlib.Omega.{arith}
 use lib.Dec.{ltb}
 use lib.ListN.{length, drop}
 use Rattle.bits.specs.Bits.{AllBits}
+use Rattle.modes.specs.Modes.{unknown}
 use Rattle.reader.specs.declared.types.Reader.{Reader}
 use Rattle.reader.specs.declared.types.Heard.{Heard}
 use Rattle.reader.specs.Reach.{fed, answers, Reached}
@@ -48,7 +49,7 @@ passing-ends (cut ∷ cuts) r run p all each enough =
     let fewer : length (drop (b .taken) run) ≤ length cuts = (let less = rest-shorter r p cut run all (each .0) (each .1) in omega arith) in
     passing-ends cuts (b .reader) (drop (b .taken) run) (next-passing r p cut run all) (rest-clean r p cut run all) (each .2) fewer
 
-module _ (r : Reader) (known : ltb 2 (r .mode) ≡ false) (reached : Reached r) (cuts : List Cut) (run : List ℕ) (all : AllBits run) where
+module _ (r : Reader) (known : unknown (r .mode) ≡ false) (reached : Reached r) (cuts : List Cut) (run : List ℕ) (all : AllBits run) where
   -- so far the answers are those of the single steps, and what is left goes on from the same state
   pub cut-anywhere :
       (answers r run ≡ inBlocks r cuts run .heard ++ answers (inBlocks r cuts run .reader) (inBlocks r cuts run .left))

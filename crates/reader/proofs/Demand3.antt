@@ -13,6 +13,7 @@ use borrow.Author.Tests.{le-ltb, ltb-true, ltb-false}
 use Rattle.bits.specs.Bits.{someAbove, AllBits}
 use Rattle.bits.proofs.Bit.{within-append}
 use Rattle.bits.proofs.Neighbours.{Each}
+use Rattle.modes.specs.Modes.{unknown}
 use Rattle.ltc.specs.Word.{syncWord}
 use Rattle.ltc.proofs.Apart.{gaps, NotBoth, apart}
 use Rattle.reader.specs.declared.types.Reader.{Reader}
@@ -73,16 +74,15 @@ module _ {mode : ℕ} where
   words-clean (word ∷ words) = within-append 1 (word .bits) (endToEnd words) (word-clean word) (words-clean words)
 
 pub demand-3 : Follows answers
-demand-3 reader reached low words =
-    let sound = reached-passing reader (le-ltb 2 (reader .mode) low) reached in
+demand-3 reader reached known words =
+    let sound = reached-passing reader known reached in
     let held = heldBits reader in
     let none : length held - 80 ≡ 0 = rw (length-drop, register-length reader) (omega arith) in
     ap (drop settled) (answers-after (endToEnd words) reader held sound (rw none) (words-clean words)) ∙ first held words
 
 -- and in blocks cut anywhere, going on after each stop to the end
 pub demand-3-in-blocks :
-    (reader : Reader) → Reached reader → reader .mode ≤ 2 → (words : List (CodeWord (reader .mode))) (cuts : List Cut)
+    (reader : Reader) → Reached reader → unknown (reader .mode) ≡ false → (words : List (CodeWord (reader .mode))) (cuts : List Cut)
     → inBlocks reader cuts (endToEnd words) .left ≡ [] → drop settled (inBlocks reader cuts (endToEnd words) .heard) ≡ drop settled (eachAsItself words)
-demand-3-in-blocks reader reached low words cuts ended =
-    let known = le-ltb 2 (reader .mode) low in
-    ap (drop settled) (cut-to-the-end reader known reached cuts (endToEnd words) (words-clean words) ended .0) ∙ demand-3 reader reached low words
+demand-3-in-blocks reader reached known words cuts ended =
+    ap (drop settled) (cut-to-the-end reader known reached cuts (endToEnd words) (words-clean words) ended .0) ∙ demand-3 reader reached known words

@@ -5,8 +5,8 @@ use mathlib.Core.Bool.{Bool, true, false}
 use mathlib.Core.List.{List}
 use Prim.Native.Nat.{ℕ, _+_, _^_, _≤_, _<_, min}
 use native.Mathlib.Omega.{arith}
-use lib.Dec.{ltb}
 use lib.ListN.{length, getD}
+use Rattle.modes.specs.Modes.{unknown}
 use Rattle.reader.specs.declared.types.Reader.{Reader}
 use Rattle.reader.specs.Held.{heldBits, push, readerWith, unreached}
 use Rattle.reader.specs.declared.types.Heard.{Heard}
@@ -18,7 +18,7 @@ use Rattle.reader.proofs.Turns.{feeding-begins, stops-after, feeding-go
 
 module _ (limit : ℕ) (run : List ℕ) (first : Reader) (end : ℕ) where
   pub begins :
-      first .info < 2 ^ 64 → first .sync < 2 ^ 16 → ltb 2 (first .mode) ≡ false → unreached first ≡ false → end ≡ min limit (length run)
+      first .info < 2 ^ 64 → first .sync < 2 ^ 16 → unknown (first .mode) ≡ false → unreached first ≡ false → end ≡ min limit (length run)
       → Feeding limit run first end first 0
   begins low high known passes = feeding-begins limit run first end record { passing = record { known = known; passes = passes }; low = low; high = high }
 

@@ -8,7 +8,9 @@ use native.Mathlib.Omega.{arith}
 use lib.ListN.{length, getD, take, drop, replicate, length-append, length-drop}
 use lib.Seq.{drop-at, drop-cons, split-at, length-take-le}
 use borrow.Author.Tests.{le-ltb, eq-eqb, not-false}
+use Rattle.refusals.specs.Table.{element-too-high, wrong-sync}
 use Rattle.refusals.specs.Answer.{Clear}
+use Rattle.refusals.proofs.ByNumber.{clear-at}
 use Rattle.bits.specs.Bits.{AllBits}
 use Rattle.bits.proofs.Bit.{head-within, tail-within}
 use Rattle.runs.specs.Run.{same}
@@ -74,13 +76,13 @@ module _ {mode : ℕ} (word : CodeWord mode) where
   word-long = long mode (word .bits) clear
 
   pub word-clean : AllBits (word .bits)
-  word-clean = clear .1 .1 .0
+  word-clean = clear-at element-too-high (readRefusals mode (word .bits)) clear
 
   -- held whole, it is heard as itself
   pub heard-whole : heardIn mode (word .bits) ≡ Accepted (word .says)
   unfolding heardIn
   heard-whole =
-      let synced : same (drop 64 (word .bits)) syncWord ≡ true = not-false _ (clear .1 .1 .1 .0) in
+      let synced : same (drop 64 (word .bits)) syncWord ≡ true = not-false _ (clear-at wrong-sync (readRefusals mode (word .bits)) clear) in
       rw (eq-eqb (length (word .bits)) 80 word-long, synced) (ap told (word .accepted))
 
 -- after any past that does not make a false sync word within it: nothing until its 80th bit, and then its own record

@@ -1,12 +1,13 @@
 -- Demand 3 leaves a player no choice after the fifth bit, and one that changes what is reported of any accepted word does not meet it.
 -- Assumes nothing.
-use Prim.Native.Nat.{ℕ, zero, suc, _≤_}
+use Prim.Native.Nat.{ℕ, zero, suc}
 use mathlib.Core.Path.{_≡_, refl, sym, ap, _∙_}
+use mathlib.Core.Bool.{false}
 use mathlib.Core.List.{List, [], _∷_, map}
 use native.Mathlib.Omega.{arith}
-use lib.Dec.{lit≤}
 use lib.ListN.{getD, drop}
 use Rattle.record.specs.Record.{recordOf}
+use Rattle.modes.specs.Modes.{unknown}
 use Rattle.reader.specs.declared.types.Reader.{Reader}
 use Rattle.reader.specs.declared.types.Heard.{Heard}
 use Rattle.reader.specs.declared.types.Heard.the-variants.{Nothing, Accepted, Refused}
@@ -37,31 +38,31 @@ fresh-reached mode = record { elements = []; brought = refl }
 
 -- whoever follows says after the fifth bit what the reader says
 pub no-choice :
-    (player : Reader → List ℕ → List Heard) → Follows player → (reader : Reader) → Reached reader → reader .mode ≤ 2
+    (player : Reader → List ℕ → List Heard) → Follows player → (reader : Reader) → Reached reader → unknown (reader .mode) ≡ false
     → (words : List (CodeWord (reader .mode))) → drop settled (player reader (endToEnd words)) ≡ drop settled (answers reader (endToEnd words))
-no-choice player follows reader reached low words = follows reader reached low words ∙ sym (demand-3 reader reached low words)
+no-choice player follows reader reached known words = follows reader reached known words ∙ sym (demand-3 reader reached known words)
 
 -- a player who changes what the reader says follows only where each accepted word's report is passed on as it is
-pub honest : (lie : Heard → Heard) → Follows (relaying lie) → (mode : ℕ) → mode ≤ 2 → (word : CodeWord mode) → lie (Accepted (word .says)) ≡ Accepted (word .says)
+pub honest : (lie : Heard → Heard) → Follows (relaying lie) → (mode : ℕ) → unknown mode ≡ false → (word : CodeWord mode) → lie (Accepted (word .says)) ≡ Accepted (word .says)
 unfolding eachAsItself
-honest lie follows mode low word =
+honest lie follows mode known word =
     let reader = freshOf mode in
     let bits = endToEnd (word ∷ []) in
-    let asked = follows reader (fresh-reached mode) low (word ∷ []) in
-    let told = demand-3 reader (fresh-reached mode) low (word ∷ []) in
+    let asked = follows reader (fresh-reached mode) known (word ∷ []) in
+    let told = demand-3 reader (fresh-reached mode) known (word ∷ []) in
     ap (λ (l : List Heard). getD l 74 Nothing)
     (sym (drop-map lie settled (answers reader bits) ∙ ap (map lie) told) ∙ asked)
 
 frameIn : Heard → ℕ
 frameIn Nothing = 0
-frameIn (Accepted r) = r .frames .0
+frameIn (Accepted r) = r .address .frames .0
 frameIn (Refused n) = 0
 
 -- with nothing for each report, a number, or one fixed record: one that never reports, that refuses each word, that reports one fixed address
 pub no-impostor : (other : Heard) → Follows (relaying (always other)) → ⊥
 unfolding frameIn midnight seven recordOf
 no-impostor other follows =
-    let one = honest (always other) follows 2 (lit≤ tt) midnight in
-    let another = honest (always other) follows 2 (lit≤ tt) seven in
+    let one = honest (always other) follows 2 refl midnight in
+    let another = honest (always other) follows 2 refl seven in
     let same : _≡_ {A = ℕ} 0 7 = ap frameIn (sym one ∙ another) in
     omega arith

@@ -17,9 +17,11 @@ pub mod FeedTests
 -- Passing   a reader whose mode and state are sound stays so
 -- Reached   the check passes exactly for the states that feeding a fresh reader reaches
 -- Thirteen  a step and a block answer 13 exactly for the states that no feeding reaches
+-- Rows      the lists of refusals follow the table's order: 13 straight after 2
 pub mod Passing
 pub mod Reached
 pub mod Thirteen
+pub mod Rows
 -- Blocks:
 -- Cut       a block is its single steps
 -- OneBlock  a block, and what is left of the run

@@ -11,6 +11,7 @@ use lib.Seq.{take-take}
 use borrow.Author.Tests.{le-ltb, ne-eqb, ltb-true, ltb-false}
 use Rattle.bits.specs.Bits.{AllBits}
 use Rattle.bits.proofs.Bit.{head-within, within-take, within-drop}
+use Rattle.modes.specs.Modes.{unknown}
 use Rattle.reader.specs.declared.types.Reader.{Reader}
 use Rattle.reader.specs.declared.types.Heard.{Heard}
 use Rattle.reader.specs.Held.{unreached}
@@ -39,9 +40,9 @@ going-within (element ∷ elements) r limit =
 
 pub taken-within : (r : Reader) (limit : ℕ) (run : List ℕ) → blockedOf r limit run .taken ≤ length run
 unfolding blockedOf
-taken-within r limit run = go (ltb 2 (r .mode)) refl (unreached r) refl
+taken-within r limit run = go (unknown (r .mode)) refl (unreached r) refl
   where
-    go : (m : Bool) → ltb 2 (r .mode) ≡ m → (u : Bool) → unreached r ≡ u → blockedOf r limit run .taken ≤ length run
+    go : (m : Bool) → unknown (r .mode) ≡ m → (u : Bool) → unreached r ≡ u → blockedOf r limit run .taken ≤ length run
     go true m true v = simp (m, v) (omega arith)
     go true m false v = simp (m, v) (omega arith)
     go false m true v = simp (m, v) (omega arith)

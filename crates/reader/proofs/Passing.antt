@@ -4,18 +4,19 @@ use Prim.Native.Nat.{ℕ}
 use mathlib.Core.Path.{_≡_, refl, subst, _∙_}
 use mathlib.Core.Bool.{Bool, true, false}
 use mathlib.Core.List.{List, [], _∷_}
-use mathlib.Core.Logic.{inl, inr}
 use lib.Dec.{ltb}
 use borrow.Author.Tests.{ltb-false}
 use Rattle.refusals.specs.Table.{element-too-high}
-use Rattle.refusals.specs.Answer.{Applies}
-use Rattle.refusals.proofs.Lowest.{not-clear, kept, carried}
+use Rattle.refusals.specs.Answer.{testOf}
+use Rattle.refusals.proofs.Answered.{kept, carried}
+use Rattle.refusals.proofs.ByNumber.{not-clear}
 use Rattle.bits.specs.Bits.{toBits, howMany}
+use Rattle.modes.specs.Modes.{unknown}
 use Rattle.reader.specs.declared.types.Reader.{Reader}
 use Rattle.reader.specs.declared.types.Heard.the-variants.{Refused}
 use Rattle.reader.specs.declared.types.Stepped.{Stepped}
 use Rattle.reader.specs.Held.{heldBits, push, readerWith, freshOf, unreached}
-use Rattle.reader.specs.Steps.{after, feedRefusals, taking, steppedOf}
+use Rattle.reader.specs.Steps.{after, feedRefusals, bitTaken, steppedOf}
 use Rattle.reader.specs.Blocks.{going, blockedOf}
 use Rattle.reader.specs.Feeding.{Passing}
 use Rattle.reader.specs.Counting.{takesBit}
@@ -24,20 +25,20 @@ use Rattle.reader.proofs.Registers.{held-clean, check-of}
 use Rattle.reader.proofs.Taken.{push-few, push-clean}
 
 -- "A reader refused with 2, 3 or 13 comes back the same, with that bit not taken": whichever of the three applies
-pub not-taken : (r : Reader) (element n : ℕ) → Applies n (feedRefusals r element) → (steppedOf r element .reader ≡ r) × (takesBit r element ≡ false)
+pub not-taken : (r : Reader) (element n : ℕ) → testOf n (feedRefusals r element) ≡ true → (steppedOf r element .reader ≡ r) × (takesBit r element ≡ false)
 unfolding steppedOf
 not-taken r element n refused =
     let rows = feedRefusals r element in
     let some = not-clear n rows refused in
-    let back = carried (λ (s : Stepped). s .reader) (λ (k : ℕ). after r (Refused k)) (taking r element) rows in
-    (back ∙ kept r (taking r element .reader) rows some, kept false true rows some)
+    let back = carried (λ (s : Stepped). s .reader) (λ (k : ℕ). after r (Refused k)) (bitTaken r element) rows in
+    (back ∙ kept r (bitTaken r element .reader) rows some, kept false true rows some)
 
 -- by 3, an element above 1
 pub high-not-taken : (r : Reader) (element : ℕ) → ltb 1 element ≡ true → steppedOf r element .reader ≡ r
-high-not-taken r element high = not-taken r element element-too-high (inr (inr (inl (refl, high)))) .0
+high-not-taken r element high = not-taken r element element-too-high high .0
 
 -- a bit is pushed onto the list
-pub passing-takes : (r : Reader) (element : ℕ) → Passing r → ltb 1 element ≡ false → steppedOf r element ≡ taking r element
+pub passing-takes : (r : Reader) (element : ℕ) → Passing r → ltb 1 element ≡ false → steppedOf r element ≡ bitTaken r element
 unfolding steppedOf
 passing-takes r element p small = rw (p .known, p .passes, small)
 
@@ -64,7 +65,7 @@ fed-passing [] r p = p
 fed-passing (element ∷ elements) r p = fed-passing elements (steppedOf r element .reader) (step-passing r element p)
 
 -- so a state that feeding reaches is sound
-pub reached-passing : (r : Reader) → ltb 2 (r .mode) ≡ false → Reached r → Passing r
+pub reached-passing : (r : Reader) → unknown (r .mode) ≡ false → Reached r → Passing r
 unfolding unreached toBits howMany
 reached-passing r known reached =
     subst Passing (reached .brought) (fed-passing (reached .elements) (freshOf (r .mode)) record { known = known; passes = refl })

@@ -11,6 +11,7 @@ use lib.ListN.{length, length-append}
 use borrow.Author.Tests.{le-ltb}
 use Rattle.bits.specs.Bits.{someAbove, AllBits, value}
 use Rattle.bits.proofs.Bit.{head-within, tail-within, within-cons, within-append}
+use Rattle.modes.specs.Modes.{unknown}
 use Rattle.reader.specs.declared.types.Reader.{Reader}
 use Rattle.reader.specs.Held.{heldBits, push, readerWith, freshOf, unreached}
 use Rattle.reader.specs.Steps.{steppedOf}
@@ -24,7 +25,7 @@ fresh-is : (mode : ℕ) → freshOf mode ≡ readerWith mode []
 unfolding readerWith value
 fresh-is mode = refl
 
-module _ (mode : ℕ) (known : ltb 2 mode ≡ false) where
+module _ (mode : ℕ) (known : unknown mode ≡ false) where
   -- a bit is pushed onto the list that is held
   steps-on :
       (bits : List ℕ) (bit : ℕ) → length bits ≤ 80 → AllBits bits → bit ≤ 1 → steppedOf (readerWith mode bits) bit .reader ≡ readerWith mode (push bits bit)
@@ -48,7 +49,7 @@ module _ (mode : ℕ) (known : ltb 2 mode ≡ false) where
       ∙ ap (readerWith mode) (append-assoc bits (bit ∷ []) more))
 
 -- both directions, for every state whose words are machine words
-pub reached-exactly : (r : Reader) → ltb 2 (r .mode) ≡ false → r .info < 2 ^ 64 → r .sync < 2 ^ 16 → (unreached r ≡ false) ↔ Reached r
+pub reached-exactly : (r : Reader) → unknown (r .mode) ≡ false → r .info < 2 ^ 64 → r .sync < 2 ^ 16 → (unreached r ≡ false) ↔ Reached r
 unfolding someAbove
 reached-exactly r known low high = (there, λ reached. reached-passing r known reached .passes)
   where

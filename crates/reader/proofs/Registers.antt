@@ -9,7 +9,7 @@ use lib.Dec.{ltb}
 use lib.ListN.{length, take, drop, replicate, length-append, length-replicate, length-drop, take-append-drop}
 use lib.Seq.{length-take-le, take-at, drop-at}
 use borrow.Author.Tests.{ltb-false, le-ltb, eqb-true, not-false}
-use Rattle.refusals.proofs.Lowest.{neither}
+use Rattle.refusals.proofs.Answered.{neither}
 use Rattle.bits.specs.Bits.{value, toBits, someAbove, howMany, onesIn, AllBits}
 use Rattle.bits.proofs.Bit.{head-within, tail-within, within-append, within-take, within-drop, length-toBits, bits-of-number}
 use Rattle.bits.proofs.Inverse.{value-toBits, toBits-value}

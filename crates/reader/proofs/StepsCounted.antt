@@ -9,6 +9,7 @@ use native.Mathlib.Omega.{arith}
 use lib.Dec.{ltb, eqb}
 use lib.ListN.{take}
 use borrow.Author.Tests.{ne-eqb}
+use Rattle.modes.specs.Modes.{unknown}
 use Rattle.reader.specs.declared.types.Reader.{Reader}
 use Rattle.reader.specs.Held.{unreached}
 use Rattle.reader.specs.Steps.{steppedOf}
@@ -23,9 +24,9 @@ takes r element p small = rw (p .known, p .passes, small)
 -- a step that does not take its bit answers why
 untaken-answers : (r : Reader) (element : ℕ) → takesBit r element ≡ false → isAnswer (steppedOf r element .heard) ≡ true
 unfolding steppedOf
-untaken-answers r element none = go (ltb 2 (r .mode)) refl (unreached r) refl (ltb 1 element) refl
+untaken-answers r element none = go (unknown (r .mode)) refl (unreached r) refl (ltb 1 element) refl
   where
-    go : (m : Bool) → ltb 2 (r .mode) ≡ m → (s : Bool) → unreached r ≡ s → (h : Bool) → ltb 1 element ≡ h → isAnswer (steppedOf r element .heard) ≡ true
+    go : (m : Bool) → unknown (r .mode) ≡ m → (s : Bool) → unreached r ≡ s → (h : Bool) → ltb 1 element ≡ h → isAnswer (steppedOf r element .heard) ≡ true
     go false m false t false e = absurd (true≢false (simp (m, t, e) at none))
     go false m false t true e = simp (m, t, e)
     go false m true t h e = simp (m, t)
@@ -96,9 +97,9 @@ data Stands (r : Reader) : Type 0 where
 
 stands : (r : Reader) → Stands r
 unfolding blockedOf
-stands r = go (ltb 2 (r .mode)) refl (unreached r) refl
+stands r = go (unknown (r .mode)) refl (unreached r) refl
   where
-    go : (m : Bool) → ltb 2 (r .mode) ≡ m → (s : Bool) → unreached r ≡ s → Stands r
+    go : (m : Bool) → unknown (r .mode) ≡ m → (s : Bool) → unreached r ≡ s → Stands r
     go false m false t = sound record { known = m; passes = t }
     go false m true t = turned-away (λ element. simp (m, t)) (λ limit run. simp (m, t))
     go true m false t = turned-away (λ element. simp (m, t)) (λ limit run. simp (m, t))

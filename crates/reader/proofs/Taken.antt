@@ -10,6 +10,7 @@ use lib.ListN.{length}
 use borrow.Author.Tests.{le-ltb}
 use Rattle.bits.specs.Bits.{someAbove, AllBits}
 use Rattle.bits.proofs.Bit.{within-drop, within-cons, within-append}
+use Rattle.modes.specs.Modes.{unknown}
 use Rattle.reader.specs.declared.types.Reader.{Reader}
 use Rattle.reader.specs.declared.types.Heard.{Heard}
 use Rattle.reader.specs.Held.{heldBits, push, readerWith, unreached}
@@ -33,7 +34,7 @@ module _ (r : Reader) (bit : ℕ) (low : r .info < 2 ^ 64) (high : r .sync < 2 ^
   pub pushed-holds : heldBits (readerWith (r .mode) (push (heldBits r) bit)) ≡ push (heldBits r) bit
   pushed-holds = held-of (r .mode) (push (heldBits r) bit) (push-few (heldBits r) bit) (push-clean (heldBits r) bit (held-clean r) small)
 
-  module _ (known : ltb 2 (r .mode) ≡ false) (next : Reader) (pushes : next ≡ readerWith (r .mode) (push (heldBits r) bit)) where
+  module _ (known : unknown (r .mode) ≡ false) (next : Reader) (pushes : next ≡ readerWith (r .mode) (push (heldBits r) bit)) where
     pub next-passes : unreached next ≡ false
     next-passes = rw pushes pushed-passes
 

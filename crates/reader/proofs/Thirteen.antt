@@ -1,4 +1,4 @@
--- "reader state that no feeding reaches": in a mode up to 2, a step and a block answer 13 exactly for these.
+-- "reader state that no feeding reaches": in a mode that is known, a step and a block answer 13 exactly for these.
 -- Assumes nothing.
 use Prim.Native.Nat.{ℕ, _-_, _^_, _<_}
 use mathlib.Core.Path.{_≡_, refl, ap}
@@ -9,12 +9,14 @@ use native.Mathlib.Omega.{arith}
 use lib.Dec.{ltb, eqb}
 use lib.ListN.{length, drop}
 use Rattle.refusals.specs.Table.{state-not-reached}
-use Rattle.refusals.proofs.Lowest.{carried, given-below}
+use Rattle.refusals.proofs.Answered.{carried, given-below}
 use Rattle.runs.specs.Run.{same}
 use Rattle.clock.specs.declared.types.Flag.the-variants.{No}
 use Rattle.record.specs.declared.types.Unpacked.{Unpacked}
 use Rattle.record.specs.declared.types.Unpacked.the-variants.{Holds as Read, Refused as Unheld}
-use Rattle.record.specs.Record.{recordOf, marked}
+use Rattle.record.specs.Record.{marked}
+use Rattle.modes.specs.Modes.{unknown}
+use Rattle.modes.specs.Calls.{recordIn}
 use Rattle.ltc.specs.Word.{syncWord, infoIn}
 use Rattle.ltc.specs.Calls.{readRefusals, readOf}
 use Rattle.reader.specs.declared.types.Reader.{Reader}
@@ -38,7 +40,7 @@ number (Refused n) = n
 word-below : (mode : ℕ) (bits : List ℕ) → number (told (readOf mode bits)) < 13
 unfolding readOf
 word-below mode bits =
-    rw (carried (λ (u : Unpacked). number (told u)) Unheld (Read (marked No (recordOf mode (infoIn bits)))) (readRefusals mode bits))
+    rw (carried (λ (u : Unpacked). number (told u)) Unheld (Read (marked No (recordIn mode (infoIn bits)))) (readRefusals mode bits))
     (given-below 13 (omega arith) (readRefusals mode bits) (omega arith))
 
 heard-below : (mode : ℕ) (bits : List ℕ) → number (heardIn mode bits) < 13
@@ -73,7 +75,7 @@ block-below (element ∷ elements) r limit p =
     go false l false e true f rest = rw (l, e, f) (step-below r element p)
     go false l false e false f rest = rw (l, e, f) rest
 
-module _ (r : Reader) (known : ltb 2 (r .mode) ≡ false) (low : r .info < 2 ^ 64) (high : r .sync < 2 ^ 16) where
+module _ (r : Reader) (known : unknown (r .mode) ≡ false) (low : r .info < 2 ^ 64) (high : r .sync < 2 ^ 16) where
   -- an answer that is 13 where the check fails and below 13 where it passes
   exactly :
       (heard : Heard) → (unreached r ≡ true → heard ≡ Refused state-not-reached) → (Passing r → number heard < 13)

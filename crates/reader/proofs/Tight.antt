@@ -13,6 +13,7 @@ use Rattle.bits.specs.Bits.{value, toBits, someAbove, howMany}
 use Rattle.runs.specs.Run.{same}
 use Rattle.clock.specs.declared.types.Flag.the-variants.{No}
 use Rattle.record.specs.Record.{recordOf, marked}
+use Rattle.modes.specs.Calls.{recordIn}
 use Rattle.ltc.specs.Word.{syncWord, wordWith, oddZeros}
 use Rattle.ltc.specs.Calls.{readOf}
 use Rattle.reader.specs.declared.types.Reader.{Reader}
@@ -27,12 +28,12 @@ use Rattle.reader.specs.Following.{CodeWord, endToEnd, eachAsItself, set
 -- 00:00:00:00 at 30 frames, groups and flags 0: the polarity bit is set
 unfoldable pub midnight : CodeWord 2
 unfolding readOf recordOf oddZeros howMany toBits value someAbove same syncWord
-midnight = record { bits = wordWith (2 ^ 27); says = marked No (recordOf 2 (2 ^ 27)); accepted = refl }
+midnight = record { bits = wordWith (2 ^ 27); says = marked No (recordIn 2 (2 ^ 27)); accepted = refl }
 
 -- 00:00:00:07 and group 1 set to 1: it begins with 1, 1, 1, 0, 1, as the sync word ends
 unfoldable pub seven : CodeWord 2
 unfolding readOf recordOf oddZeros howMany toBits value someAbove same syncWord
-seven = record { bits = wordWith (2 ^ 27 + 2 ^ 4 + 7); says = marked No (recordOf 2 (2 ^ 27 + 2 ^ 4 + 7)); accepted = refl }
+seven = record { bits = wordWith (2 ^ 27 + 2 ^ 4 + 7); says = marked No (recordIn 2 (2 ^ 27 + 2 ^ 4 + 7)); accepted = refl }
 
 brokenOff : List ℕ
 brokenOff = take 75 (wordWith (2 ^ 27))
@@ -60,6 +61,6 @@ same-later bits place xs ys low same =
 pub five-is-tight : (bits : ℕ) → bits < settled → FollowsAfter bits answers → ⊥
 unfolding eachAsItself waiting brokenOff fed steppedOf readerWith unreached toBits value howMany syncWord
 five-is-tight bits few follows =
-    let asked = follows waiting waiting-reached (lit≤ tt) (seven ∷ []) in
+    let asked = follows waiting waiting-reached refl (seven ∷ []) in
     true≢false
     (ap isAnswer (sym false-report ∙ same-later bits 4 (answers waiting (endToEnd (seven ∷ []))) (eachAsItself (seven ∷ [])) (omega arith) asked))

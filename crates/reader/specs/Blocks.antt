@@ -5,14 +5,12 @@ use Prim.Native.Nat.{ℕ, _+_, _-_}
 use mathlib.Core.Bool.{Bool, true, false, cond}
 use mathlib.Core.List.{List, [], _∷_}
 use lib.Dec.{ltb, eqb}
-use Rattle.refusals.specs.Table.{mode-above-2, state-not-reached}
-use Rattle.refusals.specs.Answer.{_when_, answer}
+use Rattle.refusals.specs.Answer.{answer}
 use Rattle.reader.specs.declared.types.Reader.{Reader}
 use Rattle.reader.specs.declared.types.Heard.{Heard}
 use Rattle.reader.specs.declared.types.Heard.the-variants.{Nothing, Accepted, Refused}
 use Rattle.reader.specs.declared.types.Blocked.{Blocked}
-use Rattle.reader.specs.Held.{unreached}
-use Rattle.reader.specs.Steps.{steppedOf}
+use Rattle.reader.specs.Steps.{readerRefusals, steppedOf}
 
 -- a record or a refusal is an answer
 abbrev pub isAnswer : Heard → Bool
@@ -42,6 +40,4 @@ going reader limit (element ∷ elements) =
 -- "a bad mode or state answers 2 or 13 with count 0, even at limit 0"
 unfoldable pub blockedOf : Reader → ℕ → List ℕ → Blocked
 blockedOf reader limit run =
-    answer (λ (n : ℕ). stopped (Refused n) reader 0)
-    ((mode-above-2 when ltb 2 (reader .mode)) ∷ (state-not-reached when unreached reader) ∷ [])
-    (going reader limit run)
+    answer (λ (n : ℕ). stopped (Refused n) reader 0) (readerRefusals reader) (going reader limit run)

@@ -4,8 +4,8 @@ use Prim.Native.Nat.{ℕ, _+_, _-_, _^_, _<_, _≤_, min}
 use mathlib.Core.Path.{_≡_}
 use mathlib.Core.Bool.{false}
 use mathlib.Core.List.{List}
-use lib.Dec.{ltb}
 use lib.ListN.{length, drop}
+use Rattle.modes.specs.Modes.{unknown}
 use Rattle.reader.specs.declared.types.Reader.{Reader}
 use Rattle.reader.specs.declared.types.Blocked.{Blocked}
 use Rattle.reader.specs.Held.{unreached}
@@ -17,7 +17,7 @@ moreBefore taken block = stopped (block .heard) (block .reader) (taken + block .
 
 -- a reader whose mode and state are sound
 pub record Passing (reader : Reader) : Type 0 where
-  pub known : ltb 2 (reader .mode) ≡ false
+  pub known : unknown (reader .mode) ≡ false
   pub passes : unreached reader ≡ false
 
 -- and whose words are machine words

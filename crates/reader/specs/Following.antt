@@ -3,12 +3,14 @@
 -- first word the reader makes no report and no complaint anywhere else. Earlier leftovers may still complete a false word in those first five bits,
 -- and not later."
 -- Assumes nothing.
-use Prim.Native.Nat.{ℕ, _≤_}
+use Prim.Native.Nat.{ℕ}
 use mathlib.Core.Path.{_≡_}
+use mathlib.Core.Bool.{false}
 use mathlib.Core.List.{List, [], _∷_, _++_}
 use lib.ListN.{drop, replicate}
 use Rattle.record.specs.declared.types.Record.{Record}
 use Rattle.record.specs.declared.types.Unpacked.the-variants.{Holds}
+use Rattle.modes.specs.Modes.{unknown}
 use Rattle.ltc.specs.Calls.{readOf}
 use Rattle.reader.specs.declared.types.Reader.{Reader}
 use Rattle.reader.specs.declared.types.Heard.{Heard}
@@ -39,7 +41,7 @@ settled = 5
 -- what is asked of a player, who answers once for each bit that a reader is fed: nothing but the reports, after so many bits
 abbrev pub FollowsAfter : ℕ → (Reader → List ℕ → List Heard) → Type 0
 FollowsAfter bits player =
-    (reader : Reader) → Reached reader → reader .mode ≤ 2 → (words : List (CodeWord (reader .mode)))
+    (reader : Reader) → Reached reader → unknown (reader .mode) ≡ false → (words : List (CodeWord (reader .mode)))
     → drop bits (player reader (endToEnd words)) ≡ drop bits (eachAsItself words)
 
 abbrev pub Follows : (Reader → List ℕ → List Heard) → Type 0

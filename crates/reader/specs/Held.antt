@@ -36,6 +36,6 @@ readerWith mode bits =
 abbrev pub freshOf : ℕ → Reader
 freshOf mode = record { mode = mode; held = 0; info = 0; sync = 0 }
 
--- in a mode up to 2, a state that no feeding reaches holds more than 80 bits, or a one below those that it holds
+-- in a mode that is known, a state that no feeding reaches holds more than 80 bits, or a one below those that it holds
 unfoldable pub unreached : Reader → Bool
 unreached reader = ltb 80 (reader .held) || not (eqb (onesIn (take (80 - reader .held) (register reader))) 0)

@@ -3,14 +3,15 @@
 -- Assumes nothing.
 use Prim.Native.Nat.{ℕ}
 use mathlib.Core.Bool.{_&&_, cond}
-use mathlib.Core.List.{List, [], _∷_}
+use mathlib.Core.List.{List, [], _∷_, _++_}
 use lib.Dec.{ltb, eqb}
 use lib.ListN.{length, drop}
-use Rattle.refusals.specs.Table.{mode-above-2, element-too-high, state-not-reached}
+use Rattle.refusals.specs.Table.{unknown-mode, element-too-high, state-not-reached}
 use Rattle.refusals.specs.Answer.{Refusal, _when_, answer}
 use Rattle.runs.specs.Run.{same}
 use Rattle.record.specs.declared.types.Unpacked.{Unpacked}
 use Rattle.record.specs.declared.types.Unpacked.the-variants.{Holds, Refused as Unheld}
+use Rattle.modes.specs.Modes.{unknown}
 use Rattle.ltc.specs.Word.{syncWord}
 use Rattle.ltc.specs.Calls.{readOf}
 use Rattle.reader.specs.declared.types.Reader.{Reader}
@@ -32,20 +33,20 @@ heardIn mode bits = cond (eqb (length bits) 80 && same (drop 64 bits) syncWord) 
 abbrev pub after : Reader → Heard → Stepped
 after reader heard = record { heard = heard; reader = reader }
 
--- 2 mode above 2; 13 straight after it; 3 an element above 1
+-- of a reader: 2 the mode; 13 straight after it
+abbrev pub readerRefusals : Reader → List Refusal
+readerRefusals reader = (unknown-mode when unknown (reader .mode)) ∷ (state-not-reached when unreached reader) ∷ []
+
+-- and of what it is fed: 3 an element above 1
 abbrev pub feedRefusals : Reader → ℕ → List Refusal
-feedRefusals reader element =
-    (mode-above-2 when ltb 2 (reader .mode))
-    ∷ (state-not-reached when unreached reader)
-    ∷ (element-too-high when ltb 1 element)
-    ∷ []
+feedRefusals reader element = readerRefusals reader ++ ((element-too-high when ltb 1 element) ∷ [])
 
 -- the reader after one bit, and what it answers
-abbrev pub taking : Reader → ℕ → Stepped
-taking reader bit =
+abbrev pub bitTaken : Reader → ℕ → Stepped
+bitTaken reader bit =
     let bits = push (heldBits reader) bit in
     after (readerWith (reader .mode) bits) (heardIn (reader .mode) bits)
 
 -- "A reader refused with 2, 3 or 13 comes back the same, with that bit not taken .. A code word refused by the reader has had its bit taken."
 unfoldable pub steppedOf : Reader → ℕ → Stepped
-steppedOf reader element = answer (λ (n : ℕ). after reader (Refused n)) (feedRefusals reader element) (taking reader element)
+steppedOf reader element = answer (λ (n : ℕ). after reader (Refused n)) (feedRefusals reader element) (bitTaken reader element)

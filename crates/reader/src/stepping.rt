@@ -2,8 +2,8 @@
 ghost use mathlib.Core.Path.{_≡_};
 ghost use mathlib.Core.Bool.{false};
 ghost use Prim.Native.Nat.{_<_, min};
+ghost use Rattle.modes.specs.Modes.{unknown};
 ghost use Rattle.reader.specs.Held.{heldBits, push, readerWith, unreached};
-ghost use lib.Dec.{ltb};
 ghost use Rattle.reader.specs.Steps.{heardIn, steppedOf};
 ghost use Rattle.reader.specs.Blocks.{isAnswer, going, blockedOf};
 use crate::register::is_unreached;
@@ -59,10 +59,10 @@ fn heard(reader: Reader) -> Heard
 pub fn step(reader: Reader, element: u8) -> Stepped
     ensures { λ s. ⌜ s ≡ steppedOf reader element ⌝ }
 {
-    let unknown = 2 < reader.mode;
+    let unknown = modes::is_unknown(reader.mode);
     if unknown {
         return Stepped {
-            heard: Heard::Refused(refusals::MODE_ABOVE_2),
+            heard: Heard::Refused(refusals::UNKNOWN_MODE),
             reader,
         };
     }
@@ -107,7 +107,7 @@ fn lesser(a: usize, b: usize) -> usize
 
 // The bits of a run up to an end, from a reader whose mode and state are sound.
 fn feed(reader: Reader, limit: usize, run: &[u8]) -> Blocked
-    requires { ⌜ (ltb 2 (reader .mode) ≡ false) × (unreached reader ≡ false) ⌝ }
+    requires { ⌜ (unknown (reader .mode) ≡ false) × (unreached reader ≡ false) ⌝ }
     ensures { λ b. ⌜ b ≡ going reader limit (now (run .entry)) ⌝ }
 {
     let mut now = reader;
@@ -143,10 +143,10 @@ fn feed(reader: Reader, limit: usize, run: &[u8]) -> Blocked
 pub fn block(reader: Reader, limit: usize, run: &[u8]) -> Blocked
     ensures { λ b. ⌜ b ≡ blockedOf reader limit (now (run .entry)) ⌝ }
 {
-    let unknown = 2 < reader.mode;
+    let unknown = modes::is_unknown(reader.mode);
     if unknown {
         return Blocked {
-            heard: Heard::Refused(refusals::MODE_ABOVE_2),
+            heard: Heard::Refused(refusals::UNKNOWN_MODE),
             reader,
             taken: 0,
         };

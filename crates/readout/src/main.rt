@@ -1,27 +1,27 @@
 // The program: characters 0 and 1 in, a line for each answer of the reader out. What is made of the characters is the scribe's; here they are read and
 // the lines are written.
+//
+// types      where the program stands
 ghost use mathlib.Core.Path.{_≡_};
 ghost use mathlib.Core.Bool.{true};
 ghost use Prim.Native.Nat.{_*_, _≤_};
 ghost use lib.ListN.{length};
 ghost use Rattle.scribe.specs.Told.{Brought};
 ghost use Rattle.readout.specs.Piece.{PieceTold};
+
+mod types;
+
 use libc::STDIN_FILENO;
 use libc::STDOUT_FILENO;
 use scribe::Scribe;
 use scribe::Telling;
 use scribe::Told;
+use types::Followed;
 
 // A read asks for so many characters, and each has room for its line.
 const PIECE: usize = 4096;
 
 const LINES: usize = 262_144;
-
-// Where the scribe stands, and whether standard output still takes lines.
-struct Followed {
-    scribe: Scribe,
-    open: bool,
-}
 
 // What is there of the input, told: nothing where it has ended.
 fn told_piece(before: Scribe, piece: &mut [u8], out: &mut [u8]) -> Telling

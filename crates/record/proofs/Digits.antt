@@ -9,10 +9,13 @@ use native.Mathlib.Omega.{arith}
 use lib.Dec.{ltb}
 use lib.ListN.{drop}
 use borrow.Author.Tests.{ltb-false}
+use Rattle.refusals.specs.Table.{outside-the-clock}
 use Rattle.refusals.specs.Answer.{Clear}
-use Rattle.refusals.proofs.Lowest.{neither}
+use Rattle.refusals.proofs.Answered.{neither}
+use Rattle.refusals.proofs.ByNumber.{clear-at}
 use Rattle.bits.proofs.Neighbours.{Each, Digit, Small}
-use Rattle.clock.specs.Modes.{framesInSecond}
+use Rattle.clock.specs.declared.types.Rate.{Rate}
+use Rattle.clock.specs.Rates.{framesInSecond}
 use Rattle.clock.specs.Clock.{outside}
 use Rattle.clock.proofs.Face.{inside}
 use Rattle.clock.proofs.Sizes.{rate-small}
@@ -33,15 +36,15 @@ units n e = let low = ltb-false 9 n e in omega arith
 tens : (most ones n : ℕ) → ones + 10 * n < 10 * most → n < most
 tens most ones n h = omega arith
 
-pub small-digits : (mode info : ℕ) → Clear (bitsRefusals mode info) → Each (Small info) digits
+pub small-digits : (rate : Rate) (info : ℕ) → Clear (bitsRefusals rate info) → Each (Small info) digits
 unfolding recordOf
-small-digits mode info clear =
-    let eight = neither (digitAbove9 info) (outside (framesInSecond mode) (addressIn (recordOf mode info))) (clear .0) in
-    let within = inside (framesInSecond mode) (addressIn (recordOf mode info)) (eight .1) in
+small-digits rate info clear =
+    let eight = neither (digitAbove9 info) (outside (framesInSecond rate) (addressIn info)) (clear-at outside-the-clock (bitsRefusals rate info) clear) in
+    let within = inside (framesInSecond rate) (addressIn info) (eight .1) in
     let f = neither (ltb 9 (bits 0 3 info)) _ (eight .0) in
     let s = neither (ltb 9 (bits 16 19 info)) _ (f .1) in
     let m = neither (ltb 9 (bits 32 35 info)) _ (s .1) in
-    let frames : bits 0 3 info + 10 * bits 8 9 info < 30 = omega (arith, within .frames, rate-small mode) in
+    let frames : bits 0 3 info + 10 * bits 8 9 info < 30 = omega (arith, within .frames, rate-small rate) in
     let hours : bits 48 51 info + 10 * bits 56 57 info < 30 = omega (arith, within .hours) in
     let of-hours : Each (Small info) (drop 6 digits) = (units (bits 48 51 info) (m .1), (tens 3 (bits 48 51 info) (bits 56 57 info) hours, tt)) in
     let of-minutes : Each (Small info) (drop 4 digits) =

@@ -1,11 +1,12 @@
--- "The lowest that applies is given": the record's list, of bits or of a record, stands in rising order, as in the table.
+-- "The lowest that applies is given": the record's list, of bits or of a record, follows the table's order.
 -- Assumes nothing.
-use Prim.Native.Nat.{ℕ}
-use mathlib.Core.Bool.{Bool}
-use native.Mathlib.Omega.{arith}
-use Rattle.refusals.specs.Answer.{Rising}
+use mathlib.Core.Path.{_≡_, refl}
+use mathlib.Core.Bool.{Bool, true}
+use Rattle.refusals.specs.Table.{theOrder}
+use Rattle.refusals.specs.Answer.{inOrder}
+use Rattle.clock.specs.declared.types.Rate.{Rate}
 use Rattle.record.specs.declared.types.Record.{Record}
-use Rattle.record.specs.Calls.{recordRefusals, withMode}
+use Rattle.record.specs.Calls.{recordRefusals}
 
-pub rows-rise : (mode : ℕ) (bad : Bool) (r : Record) → Rising (withMode mode (recordRefusals mode bad r))
-rows-rise mode bad r = omega arith
+pub rows-in-order : (rate : Rate) (bad : Bool) (r : Record) → inOrder theOrder (recordRefusals rate bad r) ≡ true
+rows-in-order rate bad r = refl

@@ -1,16 +1,20 @@
 // From 64 information bits to a record.
 ghost use mathlib.Core.Path.{_≡_};
-ghost use Rattle.record.specs.Flags.{flagOf};
-ghost use Rattle.record.specs.Record.{recordWith, recordOf, digitAbove9};
+ghost use Rattle.record.specs.Flags.{places};
+ghost use Rattle.record.specs.Record.{addressIn, flagsIn, groupsIn, recordOf, digitAbove9};
 ghost use Rattle.record.specs.Calls.{unpackedOf};
-use crate::judging::address_in;
+use crate::flags::by_25;
+use crate::flags::flag;
 use crate::judging::judge;
+use crate::types::Flags;
+use crate::types::Groups;
 use crate::types::Record;
 use crate::types::Unpacked;
 use clock::Address;
 use clock::Flag;
+use clock::Rate;
 use clock::SecondFrame;
-use clock::Verdict;
+use refusals::Verdict;
 
 fn has_bad_digit(info: u64) -> bool
     ensures { λ r. ⌜ r ≡ digitAbove9 info ⌝ }
@@ -20,31 +24,41 @@ fn has_bad_digit(info: u64) -> bool
             | ((9 < info / 0x1_0000_0000 % 16) | (9 < info / 0x1_0000_0000_0000 % 16)))
 }
 
-fn flag(bit: u64) -> Flag
-    ensures { λ r. ⌜ r ≡ flagOf bit ⌝ }
-{
-    if bit == 0 {
-        return Flag::No;
-    }
-    Flag::Yes
-}
-
-// The record of the bits, with the flags whose places the mode decides.
-fn record_with(info: u64, mark: Flag, bgf0: Flag, bgf2: Flag) -> Record
-    ensures { λ r. ⌜ r ≡ recordWith info mark bgf0 bgf2 ⌝ }
+fn address_in(info: u64) -> Address
+    ensures { λ r. ⌜ r ≡ addressIn info ⌝ }
 {
     let frames = (info / 0x1 % 16 + 10 * (info / 0x100 % 4)) as u8;
-    Record {
-        hours: (info / 0x1_0000_0000_0000 % 16 + 10 * (info / 0x100_0000_0000_0000 % 4)) as u8,
-        minutes: (info / 0x1_0000_0000 % 16 + 10 * (info / 0x100_0000_0000 % 8)) as u8,
-        seconds: (info / 0x1_0000 % 16 + 10 * (info / 0x100_0000 % 8)) as u8,
+    let seconds = (info / 0x1_0000 % 16 + 10 * (info / 0x100_0000 % 8)) as u8;
+    let minutes = (info / 0x1_0000_0000 % 16 + 10 * (info / 0x100_0000_0000 % 8)) as u8;
+    let hours = (info / 0x1_0000_0000_0000 % 16 + 10 * (info / 0x100_0000_0000_0000 % 4)) as u8;
+    Address {
+        hours,
+        minutes,
+        seconds,
         frames: SecondFrame(frames),
+    }
+}
+
+fn flags_in(rate: Rate, info: u64) -> Flags
+    ensures { λ r. ⌜ r ≡ flagsIn (places rate) info ⌝ }
+{
+    let at27 = flag(info / 0x800_0000 % 2);
+    let at43 = flag(info / 0x800_0000_0000 % 2);
+    let at59 = flag(info / 0x800_0000_0000_0000 % 2);
+    Flags {
         drop: flag(info / 0x400 % 2),
         colour: flag(info / 0x800 % 2),
-        mark,
-        bgf0,
+        mark: by_25(rate, at59, at27),
+        bgf0: by_25(rate, at27, at43),
         bgf1: flag(info / 0x400_0000_0000_0000 % 2),
-        bgf2,
+        bgf2: by_25(rate, at43, at59),
+    }
+}
+
+fn groups_in(info: u64) -> Groups
+    ensures { λ r. ⌜ r ≡ groupsIn info ⌝ }
+{
+    Groups {
         group1: (info / 0x10 % 16) as u8,
         group2: (info / 0x1000 % 16) as u8,
         group3: (info / 0x10_0000 % 16) as u8,
@@ -56,25 +70,21 @@ fn record_with(info: u64, mark: Flag, bgf0: Flag, bgf2: Flag) -> Record
     }
 }
 
-fn record_at(mode: u8, info: u64) -> Record
-    ensures { λ r. ⌜ r ≡ recordOf mode info ⌝ }
+fn record_at(rate: Rate, info: u64) -> Record
+    ensures { λ r. ⌜ r ≡ recordOf rate info ⌝ }
 {
-    let at27 = flag(info / 0x800_0000 % 2);
-    let at43 = flag(info / 0x800_0000_0000 % 2);
-    let at59 = flag(info / 0x800_0000_0000_0000 % 2);
-    if mode == 1 {
-        return record_with(info, at59, at27, at43);
+    Record {
+        address: address_in(info),
+        flags: flags_in(rate, info),
+        groups: groups_in(info),
     }
-    record_with(info, at27, at43, at59)
 }
 
-pub fn from_bits(mode: u8, info: u64) -> Unpacked
-    ensures { λ r. ⌜ r ≡ unpackedOf mode info ⌝ }
+pub fn from_bits(rate: Rate, info: u64) -> Unpacked
+    ensures { λ r. ⌜ r ≡ unpackedOf rate info ⌝ }
 {
-    let record = record_at(mode, info);
-    let drop = record.drop;
-    let colour = record.colour;
-    let found = judge(mode, has_bad_digit(info), address_in(record), drop, colour);
+    let record = record_at(rate, info);
+    let found = judge(rate, has_bad_digit(info), record);
     match found {
         Verdict::Refused(number) => Unpacked::Refused(number),
         Verdict::Sound => Unpacked::Holds(record),

@@ -1,18 +1,18 @@
+use clock::Address;
 use clock::Flag;
-use clock::SecondFrame;
 
-// What a code word, a line or a packet says: an address, the flags, and the eight binary groups.
-pub struct Record {
-    pub hours: u8,
-    pub minutes: u8,
-    pub seconds: u8,
-    pub frames: SecondFrame,
+// The flags of a record, each yes or no.
+pub struct Flags {
     pub drop: Flag,
     pub colour: Flag,
     pub mark: Flag,
     pub bgf0: Flag,
     pub bgf1: Flag,
     pub bgf2: Flag,
+}
+
+// The eight binary groups, each four bits.
+pub struct Groups {
     pub group1: u8,
     pub group2: u8,
     pub group3: u8,
@@ -21,6 +21,13 @@ pub struct Record {
     pub group6: u8,
     pub group7: u8,
     pub group8: u8,
+}
+
+// What a code word, a line or a packet says.
+pub struct Record {
+    pub address: Address,
+    pub flags: Flags,
+    pub groups: Groups,
 }
 
 // The record that 64 information bits hold.

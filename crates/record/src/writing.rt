@@ -1,47 +1,28 @@
 // From a record to 64 information bits.
 ghost use mathlib.Core.Path.{_≡_};
-ghost use mathlib.Core.Bool.{cond};
-ghost use Prim.Native.Nat.{_≤_};
-ghost use lib.Dec.{eqb};
-ghost use Rattle.record.specs.Flags.{bitOf};
 ghost use Rattle.record.specs.Record.{infoOf, groupAbove15};
 ghost use Rattle.record.specs.Fits.{QuarterOf, Writable};
 ghost use Rattle.record.specs.Calls.{packedOf};
-use crate::judging::address_in;
+use crate::flags::bit;
+use crate::flags::by_25;
 use crate::judging::judge;
+use crate::types::Flags;
+use crate::types::Groups;
 use crate::types::Packed;
 use crate::types::Record;
 use clock::Address;
 use clock::Flag;
-use clock::Verdict;
+use clock::Rate;
+use refusals::Verdict;
 
-fn has_high_group(r: Record) -> bool
-    ensures { λ b. ⌜ b ≡ groupAbove15 r ⌝ }
+fn has_high_group(g: Groups) -> bool
+    ensures { λ b. ⌜ b ≡ groupAbove15 g ⌝ }
 {
-    (15 < r.group1)
-        | ((15 < r.group2)
-            | ((15 < r.group3)
-                | ((15 < r.group4)
-                    | ((15 < r.group5) | ((15 < r.group6) | ((15 < r.group7) | (15 < r.group8)))))))
-}
-
-fn bit(flag: Flag) -> u64
-    ensures { λ r. ⌜ (r ≡ bitOf flag) × (r ≤ 1) ⌝ }
-{
-    match flag {
-        Flag::No => 0,
-        Flag::Yes => 1,
-    }
-}
-
-// The flag that belongs to the mode: one at 25 frames, another else.
-fn by_25(mode: u8, at25: Flag, other: Flag) -> Flag
-    ensures { λ r. ⌜ r ≡ cond (eqb mode 1) at25 other ⌝ }
-{
-    if mode == 1 {
-        return at25;
-    }
-    other
+    (15 < g.group1)
+        | ((15 < g.group2)
+            | ((15 < g.group3)
+                | ((15 < g.group4)
+                    | ((15 < g.group5) | ((15 < g.group6) | ((15 < g.group7) | (15 < g.group8)))))))
 }
 
 // Sixteen bits: units, a group, tens and two flags, a group.
@@ -53,45 +34,37 @@ fn quarter(number: u8, low: u8, first: Flag, second: Flag, high: u8) -> u64
     digits % 10 + (16 * low as u64 + (256 * (digits / 10 + flags) + 4096 * high as u64))
 }
 
-// The four quarters of a record, with the flags whose places the mode decides.
-fn packed(mode: u8, r: Record) -> u64
-    requires { ⌜ Writable r ⌝ }
-    ensures { λ n. ⌜ n ≡ infoOf mode r ⌝ }
+// The four quarters of a record, with the flags whose places the rate decides.
+fn packed(rate: Rate, r: Record) -> u64
+    requires { ⌜ Writable (r .address) (r .groups) ⌝ }
+    ensures { λ n. ⌜ n ≡ infoOf rate r ⌝ }
 {
-    let mark = r.mark;
-    let bgf0 = r.bgf0;
-    let bgf1 = r.bgf1;
-    let bgf2 = r.bgf2;
-    let drop = r.drop;
-    let colour = r.colour;
-    let frames = r.frames.0;
-    let first = quarter(frames, r.group1, drop, colour, r.group2);
-    let second = quarter(
-        r.seconds,
-        r.group3,
-        Flag::No,
-        by_25(mode, bgf0, mark),
-        r.group4,
-    );
-    let third = quarter(
-        r.minutes,
-        r.group5,
-        Flag::No,
-        by_25(mode, bgf2, bgf0),
-        r.group6,
-    );
-    let fourth = quarter(r.hours, r.group7, bgf1, by_25(mode, mark, bgf2), r.group8);
+    let a = r.address;
+    let f = r.flags;
+    let g = r.groups;
+    let mark = f.mark;
+    let bgf0 = f.bgf0;
+    let bgf1 = f.bgf1;
+    let bgf2 = f.bgf2;
+    let drop = f.drop;
+    let colour = f.colour;
+    let at27 = by_25(rate, bgf0, mark);
+    let at43 = by_25(rate, bgf2, bgf0);
+    let at59 = by_25(rate, mark, bgf2);
+    let first = quarter(a.frames.0, g.group1, drop, colour, g.group2);
+    let second = quarter(a.seconds, g.group3, Flag::No, at27, g.group4);
+    let third = quarter(a.minutes, g.group5, Flag::No, at43, g.group6);
+    let fourth = quarter(a.hours, g.group7, bgf1, at59, g.group8);
     first + 0x1_0000 * (second + 0x1_0000 * (third + 0x1_0000 * fourth))
 }
 
-pub fn to_bits(mode: u8, r: Record) -> Packed
-    ensures { λ p. ⌜ p ≡ packedOf mode r ⌝ }
+pub fn to_bits(rate: Rate, r: Record) -> Packed
+    ensures { λ p. ⌜ p ≡ packedOf rate r ⌝ }
 {
-    let drop = r.drop;
-    let colour = r.colour;
-    let found = judge(mode, has_high_group(r), address_in(r), drop, colour);
+    let groups = r.groups;
+    let found = judge(rate, has_high_group(groups), r);
     match found {
         Verdict::Refused(number) => Packed::Refused(number),
-        Verdict::Sound => Packed::Bits(packed(mode, r)),
+        Verdict::Sound => Packed::Bits(packed(rate, r)),
     }
 }

@@ -1,11 +1,12 @@
--- "The lowest that applies is given": a call lists its refusals in the table's order, and the first whose test holds is its answer.
--- 13 comes straight after 2 by standing there in the list.
+-- "The lowest that applies is given": a call lists its refusals in the order of the table, and the first whose test holds is its answer.
 -- Assumes nothing.
-use Prim.Native.Nat.{ℕ, _<_}
+use Prim.Native.Nat.{ℕ}
 use mathlib.Core.Bool.{Bool, true, false, cond}
 use mathlib.Core.List.{List, [], _∷_}
-use mathlib.Core.Logic.{_⊎_}
 use mathlib.Core.Path.{_≡_}
+use lib.Dec.{eqb}
+use Rattle.refusals.specs.declared.types.Verdict.{Verdict}
+use Rattle.refusals.specs.declared.types.Verdict.the-variants.{Sound, Refused}
 
 infix 20 _when_
 -- a row of a call's list: the number, and the test that says whether it applies
@@ -21,22 +22,27 @@ abbrev pub answer : {A : Type 0} → (ℕ → A) → List Refusal → A → A
 answer refused [] accepted = accepted
 answer refused (row ∷ rows) accepted = cond (row .applies) (refused (row .number)) (answer refused rows accepted)
 
--- the number n stands in the list, and its test holds
-abbrev pub Applies : ℕ → List Refusal → Type 0
-Applies n [] = ⊥
-Applies n (row ∷ rows) = ((row .number ≡ n) × (row .applies ≡ true)) ⊎ Applies n rows
+-- what a list of refusals comes to
+abbrev pub verdictOf : List Refusal → Verdict
+verdictOf rows = answer Refused rows Sound
 
 -- no test of the list holds
 abbrev pub Clear : List Refusal → Type 0
 Clear [] = Unit {0}
 Clear (row ∷ rows) = (row .applies ≡ false) × Clear rows
 
--- every number of the list is above n
-abbrev pub Above : ℕ → List Refusal → Type 0
-Above n [] = Unit {0}
-Above n (row ∷ rows) = (n < row .number) × Above n rows
+-- the test of a number in a call's list: a number that the list does not have never applies
+abbrev pub testOf : ℕ → List Refusal → Bool
+testOf n [] = false
+testOf n (row ∷ rows) = cond (eqb (row .number) n) (row .applies) (testOf n rows)
 
--- the numbers stand in rising order, as in the table
-abbrev pub Rising : List Refusal → Type 0
-Rising [] = Unit {0}
-Rising (row ∷ rows) = Above (row .number) rows × Rising rows
+-- the first number of an order that applies, wherever it stands in the list
+abbrev pub firstOf : {A : Type 0} → List ℕ → (ℕ → A) → List Refusal → A → A
+firstOf [] refused rows accepted = accepted
+firstOf (n ∷ order) refused rows accepted = cond (testOf n rows) (refused n) (firstOf order refused rows accepted)
+
+-- the rows' numbers come in an order: each stands in it after the one before
+abbrev pub inOrder : List ℕ → List Refusal → Bool
+inOrder order [] = true
+inOrder [] (row ∷ rows) = false
+inOrder (n ∷ order) (row ∷ rows) = cond (eqb n (row .number)) (inOrder order rows) (inOrder order (row ∷ rows))

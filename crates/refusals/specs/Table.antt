@@ -1,14 +1,15 @@
 -- The numbers for what is turned away: document 01's table, in its order and words.
 -- Assumes nothing.
 use Prim.Native.Nat.{ℕ}
+use mathlib.Core.List.{List, [], _∷_}
 
 -- read: not exactly 80, 90 or 23 elements
 abbrev pub wrong-length : ℕ
 wrong-length = 1
 
 -- mode above 2
-abbrev pub mode-above-2 : ℕ
-mode-above-2 = 2
+abbrev pub unknown-mode : ℕ
+unknown-mode = 2
 
 -- read or fed: element above 1 (bits) or above 1,023 (words)
 abbrev pub element-too-high : ℕ
@@ -27,8 +28,8 @@ abbrev pub low-bits-set : ℕ
 low-bits-set = 6
 
 -- payload type above 2
-abbrev pub type-above-2 : ℕ
-type-above-2 = 7
+abbrev pub unknown-type : ℕ
+unknown-type = 7
 
 -- digit above 9 in a units field, or hour, minute, second, frame outside the clock; in a record, a group above 15
 abbrev pub outside-the-clock : ℕ
@@ -57,3 +58,10 @@ state-not-reached = 13
 -- frame number not below the day's count
 abbrev pub number-past-the-day : ℕ
 number-past-the-day = 14
+
+-- "The lowest that applies is given, except that 13 comes straight after 2": the numbers in the order in which they are given
+abbrev pub theOrder : List ℕ
+theOrder =
+    wrong-length ∷ unknown-mode ∷ state-not-reached ∷ element-too-high ∷ wrong-sync ∷ wrong-check ∷ low-bits-set ∷ unknown-type
+    ∷ outside-the-clock ∷ skipped-address ∷ unused-bit-set ∷ mark-set ∷ no-room ∷ number-past-the-day
+    ∷ []

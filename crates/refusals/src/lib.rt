@@ -1,9 +1,14 @@
 // The numbers for what is turned away: document 01's table, in its order and words.
+//
+// types      what a judge answers
+mod types;
+
+pub use types::Verdict;
 
 // Read: not exactly 80, 90 or 23 elements.
 pub const WRONG_LENGTH: u8 = 1;
 // Mode above 2.
-pub const MODE_ABOVE_2: u8 = 2;
+pub const UNKNOWN_MODE: u8 = 2;
 // Read or fed: element above 1 (bits) or above 1,023 (words).
 pub const ELEMENT_TOO_HIGH: u8 = 3;
 // Sync word, a sync pair, or one of the first six packet words is wrong.
@@ -13,7 +18,7 @@ pub const WRONG_CHECK: u8 = 5;
 // b0 to b2 of a data word not zero.
 pub const LOW_BITS_SET: u8 = 6;
 // Payload type above 2.
-pub const TYPE_ABOVE_2: u8 = 7;
+pub const UNKNOWN_TYPE: u8 = 7;
 // Digit above 9 in a units field, or hour, minute, second, frame outside the clock; in a record, a group above 15.
 pub const OUTSIDE_THE_CLOCK: u8 = 8;
 // Mode 2, drop set, one of the skipped addresses.

@@ -1,5 +1,4 @@
 // Requests for the clock: `number`, `address`, `distance`, `add`, `fields`, `kind-number`, `kind-fields`.
-use crate::fields::Numbers;
 use crate::fields::take_numbers;
 use crate::printing::put_bytes;
 use crate::printing::put_number;
@@ -7,6 +6,9 @@ use crate::printing::put_refused;
 use crate::printing::put_signed;
 use crate::printing::put_text;
 use crate::printing::put_unknown;
+use crate::types::Call;
+use crate::types::Numbers;
+use crate::types::Told;
 use crate::values::address_in;
 use crate::values::byte;
 use crate::values::count;
@@ -21,24 +23,6 @@ use clock::Numbered;
 use clock::Placed;
 use clock::Span;
 
-pub enum Call {
-    Number,
-    Address,
-    Distance,
-    Add,
-    Fields,
-    KindNumber,
-    KindFields,
-}
-
-// What a call told, whichever call it was.
-enum Told {
-    Number(u64),
-    Frames(i32),
-    At(Address),
-    Refused(u8),
-}
-
 fn take_fields(call: Call, line: &[u8], cursor: usize, n: &mut Numbers) -> bool {
     match call {
         Call::Number => take_numbers(line, cursor, b"bfbbbb", n),
@@ -52,7 +36,7 @@ fn take_fields(call: Call, line: &[u8], cursor: usize, n: &mut Numbers) -> bool 
 }
 
 fn number_for(n: &Numbers) -> Told {
-    let numbered = clock::number_of(byte(n[0]), flag(n[1]), address_in(n, 2));
+    let numbered = modes::number_of(byte(n[0]), flag(n[1]), address_in(n, 2));
     match numbered {
         Numbered::Refused(number) => Told::Refused(number),
         Numbered::Number(frame) => Told::Number(frame.0 as u64),
@@ -60,7 +44,7 @@ fn number_for(n: &Numbers) -> Told {
 }
 
 fn distance_for(n: &Numbers) -> Told {
-    let span = clock::distance(byte(n[0]), flag(n[1]), address_in(n, 2), address_in(n, 6));
+    let span = modes::distance(byte(n[0]), flag(n[1]), address_in(n, 2), address_in(n, 6));
     match span {
         Span::Refused(number) => Told::Refused(number),
         Span::Frames(frames) => Told::Frames(frames),
@@ -68,17 +52,17 @@ fn distance_for(n: &Numbers) -> Told {
 }
 
 fn address_for(n: &Numbers) -> Placed {
-    clock::address_of(byte(n[0]), flag(n[1]), day_frame(n[2]))
+    modes::address_of(byte(n[0]), flag(n[1]), day_frame(n[2]))
 }
 
 fn sum_for(n: &Numbers) -> Placed {
-    clock::add(byte(n[0]), flag(n[1]), address_in(n, 2), count(n[6]))
+    modes::add(byte(n[0]), flag(n[1]), address_in(n, 2), count(n[6]))
 }
 
 fn fields_for(n: &Numbers) -> Placed {
     let a = address_in(n, 2);
     let frames = a.frames;
-    clock::address_from(
+    modes::address_from(
         byte(n[0]),
         flag(n[1]),
         a.hours,

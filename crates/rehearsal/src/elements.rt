@@ -2,18 +2,13 @@
 ghost use Prim.Native.Nat.{_≤_};
 ghost use lib.ListN.{length};
 use crate::fields::NOWHERE;
-use crate::fields::Parsed;
 use crate::fields::digit_of;
 use crate::fields::field_at;
 use crate::fields::is_same;
 use crate::fields::number_in;
 use crate::fields::part_end;
-
-// How many elements the field holds, and the cursor past it.
-pub struct Run {
-    pub length: usize,
-    pub next: usize,
-}
+use crate::types::Parsed;
+use crate::types::Run;
 
 // So many elements, if there were places for them.
 fn found(length: usize, places: usize, next: usize) -> Run

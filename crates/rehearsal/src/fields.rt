@@ -5,28 +5,12 @@
 // its last cursor is the end.
 ghost use Prim.Native.Nat.{_≤_};
 ghost use lib.ListN.{length};
+use crate::types::Field;
+use crate::types::Numbers;
+use crate::types::Parsed;
+use crate::types::Taken;
 
 pub const NOWHERE: usize = 0xffff_ffff_ffff_ffff;
-
-// The characters of a field. A field that is missing has none, and no field of a request may have none.
-pub struct Field {
-    pub start: usize,
-    pub end: usize,
-}
-
-pub enum Parsed {
-    Value(u64),
-    Unsound,
-}
-
-// A number, and the cursor past its field.
-pub struct Taken {
-    pub value: u64,
-    pub next: usize,
-}
-
-// The numbers of a request, of which none has more than 23.
-pub type Numbers = [u64; 23];
 
 // Where the part of a text that starts at `from` ends: before the next separator, or at the text's end.
 pub fn part_end(text: &[u8], from: usize, separator: u8) -> usize

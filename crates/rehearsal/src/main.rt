@@ -8,6 +8,7 @@
 // reader_requests  a step, a block
 // fields           taking a line apart, and the numbers in it
 // elements         the runs in it
+// types            what the requests are made of, and what is told of them
 // values           from the numbers of a request to what the calls take
 // printing         words, numbers, records and runs into the answers
 ghost use mathlib.Core.Path.{_≡_};
@@ -20,6 +21,7 @@ mod fields;
 mod printing;
 mod reader_requests;
 mod requests;
+mod types;
 mod values;
 mod word_requests;
 
@@ -28,24 +30,11 @@ use libc::STDOUT_FILENO;
 use printing::put;
 use printing::put_unknown;
 use requests::answer;
+use types::End;
+use types::Progress;
 
 // The longest answer, to an `atc-write` into 400 words that is refused, has 1,610 characters and a line feed.
 const ROOM: usize = 2048;
-
-// How many characters the line has so far, and whether the output still takes answers.
-pub struct Progress {
-    pub length: usize,
-    pub open: bool,
-}
-
-// How the reading ended: the characters of a last line that no line feed ends, how many pieces were answered, how many bytes the last
-// read brought, and whether the output still takes answers.
-pub struct End {
-    pub length: usize,
-    pub pieces: u64,
-    pub came: usize,
-    pub open: bool,
-}
 
 // What came past the end of `line` was not kept: a line so long is no request.
 fn answer_kept(line: &[u8], length: usize, out: &mut [u8]) -> usize {

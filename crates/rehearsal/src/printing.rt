@@ -1,7 +1,10 @@
 // What answers are made of. Each call answers where the next byte goes; what begins an answer is put at its start, and a field brings
 // the space before it.
 ghost use Prim.Native.Nat.{_<_};
+use clock::Address;
 use clock::Flag;
+use record::Flags;
+use record::Groups;
 use record::Record;
 
 // One byte; nothing where no place is left.
@@ -76,17 +79,20 @@ fn bit(flag: Flag) -> u8 {
 
 // RECORD: `H M S F drop colour mark bgf0 bgf1 bgf2 G1 .. G8`.
 fn fields_of(r: Record) -> [u8; 18] {
-    let frames = r.frames;
-    let drop = r.drop;
-    let colour = r.colour;
-    let mark = r.mark;
-    let bgf0 = r.bgf0;
-    let bgf1 = r.bgf1;
-    let bgf2 = r.bgf2;
+    let a = r.address;
+    let f = r.flags;
+    let g = r.groups;
+    let frames = a.frames;
+    let drop = f.drop;
+    let colour = f.colour;
+    let mark = f.mark;
+    let bgf0 = f.bgf0;
+    let bgf1 = f.bgf1;
+    let bgf2 = f.bgf2;
     [
-        r.hours,
-        r.minutes,
-        r.seconds,
+        a.hours,
+        a.minutes,
+        a.seconds,
         frames.0,
         bit(drop),
         bit(colour),
@@ -94,14 +100,14 @@ fn fields_of(r: Record) -> [u8; 18] {
         bit(bgf0),
         bit(bgf1),
         bit(bgf2),
-        r.group1,
-        r.group2,
-        r.group3,
-        r.group4,
-        r.group5,
-        r.group6,
-        r.group7,
-        r.group8,
+        g.group1,
+        g.group2,
+        g.group3,
+        g.group4,
+        g.group5,
+        g.group6,
+        g.group7,
+        g.group8,
     ]
 }
 

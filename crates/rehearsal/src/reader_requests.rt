@@ -2,7 +2,6 @@
 use crate::elements::bits_at;
 use crate::elements::bits_in;
 use crate::fields::NOWHERE;
-use crate::fields::Parsed;
 use crate::fields::field_at;
 use crate::fields::is_end;
 use crate::fields::is_same;
@@ -17,17 +16,13 @@ use crate::printing::put_record;
 use crate::printing::put_refused;
 use crate::printing::put_text;
 use crate::printing::put_unknown;
+use crate::types::Held;
+use crate::types::Parsed;
 use crate::values::byte;
 use reader::Blocked;
 use reader::Heard;
 use reader::Reader;
 use reader::Stepped;
-
-// The reader that HELD describes, and the cursor past its field.
-pub struct Held {
-    pub reader: Reader,
-    pub next: usize,
-}
 
 // The reader with the register that these bits leave, which says that it holds so many of its places. They are fed in mode 2, since the
 // request's may be a mode that takes none.

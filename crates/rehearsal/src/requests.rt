@@ -1,27 +1,17 @@
 // Which request a line is, and its answer.
-use crate::clock_requests::Call;
 use crate::clock_requests::answer_call;
 use crate::fields::is_same;
 use crate::fields::part_end;
 use crate::printing::put_unknown;
 use crate::reader_requests::answer_block;
 use crate::reader_requests::answer_step;
-use crate::word_requests::Carrier;
+use crate::types::Call;
+use crate::types::Carrier;
+use crate::types::Request;
 use crate::word_requests::answer_bits_read;
 use crate::word_requests::answer_bits_write;
 use crate::word_requests::answer_words_read;
 use crate::word_requests::answer_words_write;
-
-pub enum Request {
-    Clock(Call),
-    BitsRead(Carrier),
-    WordsRead,
-    BitsWrite(Carrier),
-    WordsWrite,
-    Step,
-    Block,
-    Unknown,
-}
 
 fn carrier_request(name: &[u8]) -> Request {
     if is_same(name, b"ltc-read") {

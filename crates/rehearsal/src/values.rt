@@ -1,10 +1,12 @@
 // From the numbers of a request to the values that the calls take: each number was found within the limit of its field.
 ghost use Prim.Native.Nat.{_<_};
-use crate::fields::Numbers;
+use crate::types::Numbers;
 use clock::Address;
 use clock::DayFrame;
 use clock::Flag;
 use clock::SecondFrame;
+use record::Flags;
+use record::Groups;
 use record::Record;
 
 pub fn byte(number: u64) -> u8 {
@@ -43,19 +45,19 @@ pub fn address_in(n: &Numbers, first: usize) -> Address
     }
 }
 
-// RECORD, from the fourth number of a write on.
-pub fn record_in(n: &Numbers) -> Record {
-    Record {
-        hours: byte(n[3]),
-        minutes: byte(n[4]),
-        seconds: byte(n[5]),
-        frames: SecondFrame(byte(n[6])),
+fn flags_in(n: &Numbers) -> Flags {
+    Flags {
         drop: flag(n[7]),
         colour: flag(n[8]),
         mark: flag(n[9]),
         bgf0: flag(n[10]),
         bgf1: flag(n[11]),
         bgf2: flag(n[12]),
+    }
+}
+
+fn groups_in(n: &Numbers) -> Groups {
+    Groups {
         group1: byte(n[13]),
         group2: byte(n[14]),
         group3: byte(n[15]),
@@ -64,5 +66,14 @@ pub fn record_in(n: &Numbers) -> Record {
         group6: byte(n[18]),
         group7: byte(n[19]),
         group8: byte(n[20]),
+    }
+}
+
+// RECORD, from the fourth number of a write on.
+pub fn record_in(n: &Numbers) -> Record {
+    Record {
+        address: address_in(n, 3),
+        flags: flags_in(n),
+        groups: groups_in(n),
     }
 }

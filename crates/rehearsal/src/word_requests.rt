@@ -1,7 +1,6 @@
 // Requests for the three carriers: reads and writes of linear words, vertical interval lines and packets.
 use crate::elements::bits_at;
 use crate::elements::words_at;
-use crate::fields::Numbers;
 use crate::fields::is_end;
 use crate::fields::number_at;
 use crate::fields::take_numbers;
@@ -12,17 +11,14 @@ use crate::printing::put_refused;
 use crate::printing::put_text;
 use crate::printing::put_unknown;
 use crate::printing::put_words;
+use crate::types::Carrier;
+use crate::types::Numbers;
 use crate::values::byte;
 use crate::values::record_in;
 use atc::Packet;
 use record::Record;
 use record::Unpacked;
-
-// The two carriers that have a bit to an element.
-pub enum Carrier {
-    Ltc,
-    Vitc,
-}
+use runs::Written;
 
 fn read_bits(carrier: Carrier, mode: u8, run: &[u8]) -> Unpacked {
     match carrier {
@@ -32,31 +28,17 @@ fn read_bits(carrier: Carrier, mode: u8, run: &[u8]) -> Unpacked {
 }
 
 // What a write was refused with, and 0 where it wrote.
-fn ltc_refusal(written: ltc::Written) -> u8 {
+fn refusal(written: Written) -> u8 {
     match written {
-        ltc::Written::Done => 0,
-        ltc::Written::Refused(number) => number,
-    }
-}
-
-fn vitc_refusal(written: vitc::Written) -> u8 {
-    match written {
-        vitc::Written::Done => 0,
-        vitc::Written::Refused(number) => number,
-    }
-}
-
-fn atc_refusal(written: atc::Written) -> u8 {
-    match written {
-        atc::Written::Done => 0,
-        atc::Written::Refused(number) => number,
+        Written::Done => 0,
+        Written::Refused(number) => number,
     }
 }
 
 fn write_bits(carrier: Carrier, mode: u8, record: Record, start: usize, run: &mut [u8]) -> u8 {
     match carrier {
-        Carrier::Ltc => ltc_refusal(ltc::write(mode, record, start, run)),
-        Carrier::Vitc => vitc_refusal(vitc::write(mode, record, start, run)),
+        Carrier::Ltc => refusal(ltc::write(mode, record, start, run)),
+        Carrier::Vitc => refusal(vitc::write(mode, record, start, run)),
     }
 }
 
@@ -98,7 +80,7 @@ fn put_words_written(n: &Numbers, run: &mut [u16], out: &mut [u8]) -> usize {
     let start = n[1] as usize;
     let record = record_in(n);
     let written = atc::write(byte(n[0]), record, byte(n[21]), byte(n[22]), start, run);
-    let next = put_written(out, atc_refusal(written));
+    let next = put_written(out, refusal(written));
     put_words(out, next, run)
 }
 

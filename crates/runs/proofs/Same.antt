@@ -8,7 +8,7 @@ use lib.Dec.{ltb, eqb}
 use lib.ListN.{length}
 use borrow.Author.Tests.{eq-eqb, eqb-true, le-ltb}
 use Rattle.bits.specs.Bits.{value, someAbove}
-use Rattle.runs.specs.declared.carry.Gathered.the-variants.{Number, TooLong, NoBit}
+use Rattle.runs.specs.declared.types.Gathered.the-variants.{Number, TooLong, NoBit}
 use Rattle.runs.specs.Gather.{gatheredOf}
 use Rattle.runs.specs.Run.{same}
 

@@ -6,8 +6,8 @@ use mathlib.Core.List.{List}
 use lib.Dec.{ltb}
 use lib.ListN.{length}
 use Rattle.bits.specs.Bits.{value, someAbove}
-use Rattle.runs.specs.declared.carry.Gathered.{Gathered}
-use Rattle.runs.specs.declared.carry.Gathered.the-variants.{Number, TooLong, NoBit}
+use Rattle.runs.specs.declared.types.Gathered.{Gathered}
+use Rattle.runs.specs.declared.types.Gathered.the-variants.{Number, TooLong, NoBit}
 
 -- more than 64 elements are too long, whatever they hold; an element above 1 is no bit
 unfoldable pub gatheredOf : List ℕ → Gathered

@@ -3,13 +3,7 @@ ghost use mathlib.Core.Path.{_≡_};
 ghost use lib.ListN.{length};
 ghost use Rattle.bits.specs.Bits.{toBits};
 ghost use Rattle.runs.specs.Gather.{gatheredOf};
-
-// The number that a run of at most 64 bits stands for. A longer run has none, nor has one with an element above 1.
-pub enum Gathered {
-    Number(u64),
-    TooLong,
-    NoBit,
-}
+use crate::types::Gathered;
 
 pub fn gather(run: &[u8]) -> Gathered
     ensures { λ r. ⌜ r ≡ gatheredOf (now (run .entry)) ⌝ }

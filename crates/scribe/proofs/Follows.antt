@@ -18,7 +18,7 @@ use Rattle.lines.specs.Gathered.{outAfter}
 use Rattle.lines.proofs.Laid.{placed-none, placed-length, laid-two}
 use Rattle.lines.proofs.Appends.{stands}
 use Rattle.lines.proofs.Spelled.{line-short}
-use Rattle.scribe.specs.declared.following.Block.{Block}
+use Rattle.scribe.specs.declared.types.Block.{Block}
 use Rattle.scribe.specs.Told.{linesOf}
 use Rattle.scribe.specs.Blocks.{blockOf, bitsAfter, lineOfBlock, blockTold, runTold}
 use Rattle.scribe.specs.Loops.{Ready, Following}

@@ -5,13 +5,13 @@ use mathlib.Core.Path.{_≡_, refl, sym, _∙_}
 use mathlib.Core.Bool.{Bool, true, false}
 use mathlib.Core.List.{List, [], _∷_}
 use native.Mathlib.Omega.{arith}
-use lib.Dec.{ltb}
 use lib.ListN.{length}
 use borrow.Author.Tests.{lt-ltb, le-ltb}
 use Rattle.runs.specs.Run.{placed}
 use Rattle.runs.proofs.Written.{unchanged}
-use Rattle.clock.specs.declared.types.Verdict.{Verdict}
-use Rattle.clock.specs.declared.types.Verdict.the-variants.{Sound, Refused as Unsound}
+use Rattle.refusals.specs.declared.types.Verdict.{Verdict}
+use Rattle.refusals.specs.declared.types.Verdict.the-variants.{Sound, Refused as Unsound}
+use Rattle.modes.specs.Modes.{unknown}
 use Rattle.reader.specs.declared.types.Reader.{Reader}
 use Rattle.reader.specs.declared.types.Heard.the-variants.{Nothing}
 use Rattle.reader.specs.declared.types.Blocked.{Blocked}
@@ -48,12 +48,12 @@ module _ (before : Scribe) (characters out : List ℕ) where
 
     pub turned-away : (n : ℕ) → found ≡ Unsound n → ToldOf before characters out (Refused n) characters out
     unfolding toldOf charactersAfter outOf blockedOf
-    turned-away n e = go (ltb 2 (before .reader .mode)) refl (unreached (before .reader)) refl
+    turned-away n e = go (unknown (before .reader .mode)) refl (unreached (before .reader)) refl
       where
         given : Unsound n ≡ verdictIn (blockedOf (before .reader) 0 run .heard)
         given = sym e ∙ judged
 
-        go : (m : Bool) → ltb 2 (before .reader .mode) ≡ m → (u : Bool) → unreached (before .reader) ≡ u → ToldOf before characters out (Refused n) characters out
+        go : (m : Bool) → unknown (before .reader .mode) ≡ m → (u : Bool) → unreached (before .reader) ≡ u → ToldOf before characters out (Refused n) characters out
         go true m u v =
             let two : Unsound n ≡ Unsound 2 = rw m at given in
             let number : n ≡ 2 = cc in
@@ -68,12 +68,12 @@ module _ (before : Scribe) (characters out : List ℕ) where
 
     pub sound-so : found ≡ Sound → Passing (before .reader)
     unfolding blockedOf
-    sound-so e = go (ltb 2 (before .reader .mode)) refl (unreached (before .reader)) refl
+    sound-so e = go (unknown (before .reader .mode)) refl (unreached (before .reader)) refl
       where
         given : Sound ≡ verdictIn (blockedOf (before .reader) 0 run .heard)
         given = sym e ∙ judged
 
-        go : (m : Bool) → ltb 2 (before .reader .mode) ≡ m → (u : Bool) → unreached (before .reader) ≡ u → Passing (before .reader)
+        go : (m : Bool) → unknown (before .reader .mode) ≡ m → (u : Bool) → unreached (before .reader) ≡ u → Passing (before .reader)
         go true m u v =
             let two : Sound ≡ Unsound 2 = rw m at given in
             let z : _≡_ {A = ℕ} 0 1 = cc in absurd (omega arith)

@@ -5,6 +5,7 @@
 -- Tells     the characters that count, sifted and told
 -- Judged    what is turned away, and what is told
 -- Pieces    one piece after the other
+-- Rows      the list of refusals follows the table's order
 pub mod Sifts
 pub mod SiftTests
 pub mod Lined
@@ -12,3 +13,4 @@ pub mod Follows
 pub mod Tells
 pub mod Judged
 pub mod Pieces
+pub mod Rows

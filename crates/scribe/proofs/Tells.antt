@@ -16,8 +16,8 @@ use Rattle.reader.specs.Reach.{answers}
 use Rattle.lines.specs.Lines.{zeroDigit}
 use Rattle.lines.proofs.Laid.{starts-within}
 use Rattle.scribe.specs.declared.types.Scribe.{Scribe}
-use Rattle.scribe.specs.declared.sifting.Sifted.{Sifted}
-use Rattle.scribe.specs.declared.following.Block.{Block}
+use Rattle.scribe.specs.declared.types.Sifted.{Sifted}
+use Rattle.scribe.specs.declared.types.Block.{Block}
 use Rattle.scribe.specs.Characters.{isSkipped, isDigit, oneDigit, bitsIn, goesOn, siftedOf}
 use Rattle.scribe.specs.Told.{counted, linesOf, textOf, leftAfter, scribeAfter, tellingOf}
 use Rattle.scribe.specs.Blocks.{runTold}

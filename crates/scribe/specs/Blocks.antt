@@ -3,8 +3,8 @@
 use Prim.Native.Nat.{ℕ, _+_, _%_, _^_}
 use mathlib.Core.List.{List}
 use lib.ListN.{length}
-use Rattle.clock.specs.declared.types.Verdict.{Verdict}
-use Rattle.clock.specs.declared.types.Verdict.the-variants.{Sound, Refused as Unsound}
+use Rattle.refusals.specs.declared.types.Verdict.{Verdict}
+use Rattle.refusals.specs.declared.types.Verdict.the-variants.{Sound, Refused as Unsound}
 use Rattle.reader.specs.declared.types.Reader.{Reader}
 use Rattle.reader.specs.declared.types.Heard.{Heard}
 use Rattle.reader.specs.declared.types.Heard.the-variants.{Nothing, Accepted, Refused}
@@ -13,7 +13,7 @@ use Rattle.reader.specs.Blocks.{blockedOf}
 use Rattle.reader.specs.Reach.{fed, answers}
 use Rattle.lines.specs.Lines.{lineOf}
 use Rattle.lines.specs.Gathered.{placeAfter}
-use Rattle.scribe.specs.declared.following.Block.{Block}
+use Rattle.scribe.specs.declared.types.Block.{Block}
 use Rattle.scribe.specs.Told.{linesOf}
 
 -- the block that takes all that it can of the run

@@ -7,7 +7,7 @@ use mathlib.Core.List.{List, [], _∷_}
 use lib.Dec.{eqb}
 use lib.ListN.{length}
 use Rattle.lines.specs.Lines.{lineFeed, space, zeroDigit}
-use Rattle.scribe.specs.declared.sifting.Sifted.{Sifted}
+use Rattle.scribe.specs.declared.types.Sifted.{Sifted}
 
 abbrev pub oneDigit : ℕ
 oneDigit = 49

@@ -7,11 +7,12 @@ use mathlib.Core.Bool.{Bool, _&&_, cond}
 use mathlib.Core.List.{List, [], _∷_, _++_}
 use lib.Dec.{ltb}
 use lib.ListN.{length, take}
-use Rattle.refusals.specs.Table.{mode-above-2, state-not-reached, no-room}
+use Rattle.refusals.specs.Table.{no-room}
 use Rattle.refusals.specs.Answer.{Refusal, _when_, answer}
 use Rattle.runs.specs.Run.{noRoom, runAfter}
 use Rattle.reader.specs.declared.types.Heard.{Heard}
-use Rattle.reader.specs.Held.{freshOf, unreached}
+use Rattle.reader.specs.Held.{freshOf}
+use Rattle.reader.specs.Steps.{readerRefusals}
 use Rattle.reader.specs.Reach.{fed, answers}
 use Rattle.lines.specs.Lines.{lineOf}
 use Rattle.scribe.specs.declared.types.Scribe.{Scribe}
@@ -59,13 +60,10 @@ scribeAfter before characters =
 unfoldable pub tellingOf : Scribe → List ℕ → Telling
 tellingOf before characters = record { scribe = scribeAfter before characters; length = length (textOf before characters) }
 
--- 2 mode above 2; 13 straight after it; 12, stretched to the places that are written to here, fewer than 64 for each character, which are room for its line
+-- 2 the mode; 13 straight after it; 12, stretched to the places that are written to here, fewer than 64 for each character, which are room for its line
 abbrev pub tellRefusals : Scribe → List ℕ → List ℕ → List Refusal
 tellRefusals before characters out =
-    (mode-above-2 when ltb 2 (before .reader .mode))
-    ∷ (state-not-reached when unreached (before .reader))
-    ∷ (no-room when noRoom (64 * length characters) 0 out)
-    ∷ []
+    readerRefusals (before .reader) ++ ((no-room when noRoom (64 * length characters) 0 (length out)) ∷ [])
 
 unfoldable pub toldOf : Scribe → List ℕ → List ℕ → Told
 toldOf before characters out = answer Refused (tellRefusals before characters out) (Lines (tellingOf before characters))

@@ -11,12 +11,14 @@ ghost use Rattle.scribe.specs.Blocks.{lineOfBlock, blockTold, runTold, v
 ghost use Rattle.scribe.specs.Loops.{Ready};
 ghost use Rattle.scribe.specs.Characters.{bitsIn};
 use crate::sifting::sift;
+use crate::types::Block;
 use crate::types::Scribe;
+use crate::types::Sifted;
 use crate::types::Telling;
 use crate::types::Told;
-use clock::Verdict;
 use reader::Heard;
 use reader::Reader;
+use refusals::Verdict;
 
 // "in mode 2 .. after 16,777,216 characters in all"
 const MODE: u8 = 2;
@@ -33,14 +35,6 @@ impl Scribe {
             left: CHARACTERS,
         }
     }
-}
-
-// A reader and the bits so far, how many bits of the run were taken, and the place after the lines so far.
-pub struct Block {
-    pub reader: Reader,
-    pub bits: u64,
-    pub taken: usize,
-    pub at: usize,
 }
 
 // A block of the run, and the line of its answer at a place.

@@ -2,12 +2,7 @@
 ghost use mathlib.Core.Path.{_≡_};
 ghost use Rattle.runs.specs.Run.{placed};
 ghost use Rattle.scribe.specs.Characters.{isSkipped, isDigit, bitsIn, siftedOf};
-
-// How many bits now stand at the start of the run, and whether no character in it ends the reading.
-pub struct Sifted {
-    pub bits: usize,
-    pub more: bool,
-}
+use crate::types::Sifted;
 
 fn is_skipped(character: u8) -> bool
     ensures { λ r. ⌜ r ≡ isSkipped character ⌝ }

@@ -17,3 +17,17 @@ pub enum Told {
     Lines(Telling),
     Refused(u8),
 }
+
+// How many bits now stand at the start of the run, and whether no character in it ends the reading.
+pub struct Sifted {
+    pub bits: usize,
+    pub more: bool,
+}
+
+// A reader and the bits so far, how many bits of the run were taken, and the place after the lines so far.
+pub struct Block {
+    pub reader: Reader,
+    pub bits: u64,
+    pub taken: usize,
+    pub at: usize,
+}

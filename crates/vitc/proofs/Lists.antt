@@ -9,7 +9,7 @@ use native.Mathlib.Nat.{not-suc-le-zero, le-of-suc-le-suc}
 use lib.Dec.{ltb}
 use lib.ListN.{length, getD}
 use borrow.Author.Tests.{ltb-true, ltb-false}
-use Rattle.refusals.proofs.Lowest.{neither}
+use Rattle.refusals.proofs.Answered.{neither}
 use Rattle.bits.specs.Bits.{someAbove}
 use Rattle.bits.proofs.Bit.{head-within, tail-within, within-cons}
 use Rattle.vitc.specs.Line.{each, someBelow}

@@ -1,14 +1,16 @@
--- "The lowest that applies is given": the lists of both calls stand in rising order, as in the table.
+-- "The lowest that applies is given": the lists of both calls follow the table's order.
 -- Assumes nothing.
 use Prim.Native.Nat.{ℕ}
+use mathlib.Core.Path.{_≡_, refl}
+use mathlib.Core.Bool.{true}
 use mathlib.Core.List.{List}
-use native.Mathlib.Omega.{arith}
-use Rattle.refusals.specs.Answer.{Rising}
+use Rattle.refusals.specs.Table.{theOrder}
+use Rattle.refusals.specs.Answer.{inOrder}
 use Rattle.record.specs.declared.types.Record.{Record}
 use Rattle.vitc.specs.Calls.{readRefusals, writtenRows}
 
-pub read-rows-rise : (mode : ℕ) (line : List ℕ) → Rising (readRefusals mode line)
-read-rows-rise mode line = (omega arith, (omega arith, (omega arith, (omega arith, omega arith))))
+pub read-rows-in-order : (mode : ℕ) (line : List ℕ) → inOrder theOrder (readRefusals mode line) ≡ true
+read-rows-in-order mode line = refl
 
-pub written-rows-rise : (mode : ℕ) (r : Record) (start : ℕ) (run : List ℕ) → Rising (writtenRows mode r start run)
-written-rows-rise mode r start run = omega arith
+pub written-rows-in-order : (mode : ℕ) (r : Record) (start : ℕ) (run : List ℕ) → inOrder theOrder (writtenRows mode r start run) ≡ true
+written-rows-in-order mode r start run = refl

@@ -10,7 +10,7 @@ use lib.Dec.{eqb}
 use lib.ListN.{length, getD, take, drop, length-drop, take-append-drop}
 use lib.Seq.{ext-getD, getD-take, take-at, length-take-le}
 use borrow.Author.Tests.{eqb-true, eqb-false, not-false}
-use Rattle.refusals.proofs.Lowest.{neither}
+use Rattle.refusals.proofs.Answered.{neither}
 use Rattle.bits.specs.Bits.{toBits, AllBits}
 use Rattle.bits.proofs.Bit.{within-drop}
 use Rattle.bits.proofs.Inverse.{toBits-value, value-below}

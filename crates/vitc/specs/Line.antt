@@ -8,7 +8,7 @@ use lib.Dec.{eqb}
 use lib.ListN.{getD}
 use Rattle.bits.specs.Bits.{value, toBits}
 use Rattle.record.specs.declared.types.Record.{Record}
-use Rattle.record.specs.Record.{infoOf}
+use Rattle.modes.specs.Calls.{informationIn}
 
 -- what f gives at 0, 1, 2 and so on: an element for each number below the count
 unfoldable pub each : ℕ → (ℕ → ℕ) → List ℕ
@@ -74,4 +74,4 @@ unfoldable pub lineWith : ℕ → List ℕ
 lineWith info = payload info ++ crcOf (payload info)
 
 unfoldable pub lineOf : ℕ → Record → List ℕ
-lineOf mode r = lineWith (infoOf mode r)
+lineOf mode r = lineWith (informationIn mode r)

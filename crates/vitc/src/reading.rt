@@ -5,7 +5,7 @@ ghost use Rattle.bits.specs.Bits.{someAbove};
 ghost use Rattle.vitc.specs.Line.{infoIn, wrongPair, wrongCrc};
 ghost use Rattle.vitc.specs.Loops.{BitRun};
 ghost use Rattle.vitc.specs.Calls.{readOf};
-use crate::parity;
+use crate::parity::parity;
 use record::Unpacked;
 
 // An element above 1.
@@ -78,8 +78,8 @@ pub fn read(mode: u8, line: &[u8]) -> Unpacked
     if line.len() != 90 {
         return Unpacked::Refused(refusals::WRONG_LENGTH);
     }
-    if 2 < mode {
-        return Unpacked::Refused(refusals::MODE_ABOVE_2);
+    if modes::is_unknown(mode) {
+        return Unpacked::Refused(refusals::UNKNOWN_MODE);
     }
     let high = has_high_element(line);
     if high {
@@ -93,5 +93,5 @@ pub fn read(mode: u8, line: &[u8]) -> Unpacked
     if check {
         return Unpacked::Refused(refusals::WRONG_CHECK);
     }
-    record::from_bits(mode, information(line))
+    modes::from_bits(mode, information(line))
 }

@@ -4,15 +4,11 @@ ghost use lib.ListN.{length};
 ghost use Rattle.bits.specs.Bits.{value};
 ghost use Rattle.vitc.specs.Line.{crcOf, groups, lineWith};
 ghost use Rattle.vitc.specs.Loops.{BitRun};
-ghost use Rattle.vitc.specs.Calls.{writtenOf, runOf, doneOf, runWith};
-use crate::parity;
+ghost use Rattle.vitc.specs.Calls.{writtenOf, runOf};
+use crate::parity::parity;
 use record::Packed;
 use record::Record;
-
-pub enum Written {
-    Done,
-    Refused(u8),
-}
+use runs::Written;
 
 // Eight groups of ten: the pair 1, 0 and eight information bits, low bit first.
 fn write_groups(info: u64, part: &mut [u8])
@@ -56,27 +52,19 @@ fn write_line(info: u64, line: &mut [u8])
     runs::scatter(check, &mut line[82..90]);
 }
 
-// A line of known information bits, from the start on, where there is room.
-fn place(info: u64, start: usize, run: &mut [u8]) -> Written
-    ensures { λ a. ⌜ (a ≡ doneOf start (now (run .entry))) × (now (run .exit) ≡ runWith info start (now (run .entry))) ⌝ }
-{
-    if run.len() < 90 {
-        return Written::Refused(refusals::NO_ROOM);
-    }
-    if run.len() - 90 < start {
-        return Written::Refused(refusals::NO_ROOM);
-    }
-    let end = start + 90;
-    write_line(info, &mut run[start..end]);
-    Written::Done
-}
-
 pub fn write(mode: u8, r: Record, start: usize, run: &mut [u8]) -> Written
     ensures { λ a. ⌜ (a ≡ writtenOf mode r start (now (run .entry))) × (now (run .exit) ≡ runOf mode r start (now (run .entry))) ⌝ }
 {
-    let packed = record::to_bits(mode, r);
+    let packed = modes::to_bits(mode, r);
     match packed {
         Packed::Refused(number) => Written::Refused(number),
-        Packed::Bits(info) => place(info, start, run),
+        Packed::Bits(info) => {
+            if runs::lacks_room(90, start, run.len()) {
+                return Written::Refused(refusals::NO_ROOM);
+            }
+            let end = start + 90;
+            write_line(info, &mut run[start..end]);
+            Written::Done
+        }
     }
 }

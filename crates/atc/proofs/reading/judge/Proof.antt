@@ -8,6 +8,9 @@ use Rattle.atc.proofs.reading.judge.Tie as tie
 returns : tie.Need-returns
 returns c = search wrong-size
 
+is-unknown-requires : tie.Need-is-unknown-requires
+is-unknown-requires c κs = search needs
+
 returns-2 : tie.Need-returns-2
 returns-2 c = search no-mode
 
@@ -79,6 +82,7 @@ judge-spec =
     tie.close
     (tie.spec
     returns
+    is-unknown-requires
     returns-2
     has-high-word-requires
     returns-3

@@ -26,6 +26,9 @@ part-byte-in-end c = search to-14
 byte-in-requires : tie.Need-byte-in-requires
 byte-in-requires c κs = search needs
 
+is-unknown-type-requires : tie.Need-is-unknown-type-requires
+is-unknown-type-requires c κs = search needs
+
 returns : tie.Need-returns
 returns c = search high-type
 
@@ -82,6 +85,7 @@ read-spec =
     part-byte-in-start
     part-byte-in-end
     byte-in-requires
+    is-unknown-type-requires
     returns
     sub-info-in
     part-info-in-start

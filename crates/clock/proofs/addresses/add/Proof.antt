@@ -7,37 +7,39 @@ use native.Mathlib.Omega.{arith}
 use lib.IntN.{ℤ}
 use mir.Facts.{toZ-ofZ}
 use borrow.Author.Needs.{needs}
+use Rattle.clock.specs.declared.types.Rate.{Rate}
 use Rattle.clock.specs.declared.types.Flag.{Flag}
 use Rattle.clock.specs.declared.types.Address.{Address}
-use Rattle.clock.specs.declared.types.Verdict.{Verdict}
-use Rattle.clock.specs.declared.types.Verdict.the-variants.{Sound, Refused as Unsound}
+use Rattle.refusals.specs.Answer.{verdictOf}
+use Rattle.refusals.specs.declared.types.Verdict.{Verdict}
+use Rattle.refusals.specs.declared.types.Verdict.the-variants.{Sound, Refused as Unsound}
 use Rattle.clock.specs.declared.types.Placed.the-variants.{At, Refused as Unplaced}
-use Rattle.clock.specs.Modes.{isYes, framesInSecond, framesInDay}
+use Rattle.clock.specs.Rates.{isYes, framesInSecond, framesInDay}
 use Rattle.clock.specs.Counting.{countOf, addressAt, sumOf}
-use Rattle.clock.specs.Calls.{verdictOf, refusalsOf, plusOf}
-use Rattle.clock.proofs.Verdicts.{refused-by, passed-by}
+use Rattle.clock.specs.Calls.{refusalsOf, plusOf}
+use Rattle.refusals.proofs.Verdicts.{refused-by, passed-by}
 use Rattle.clock.proofs.Round.{sum-below}
 use Rattle.clock.proofs.Sizes.{some-day, day-small, count-small}
 use Rattle.clock.proofs.addresses.add.Statement.{statement}
 use Rattle.clock.proofs.addresses.add.Tie as tie
 
-module _ (mode : ℕ) (drop : Flag) (a : Address) (z : ℤ) (found : Verdict) (judged : found ≡ verdictOf (refusalsOf mode drop a)) where
-  refused : (n : ℕ) → found ≡ Unsound n → Unplaced n ≡ plusOf mode drop a z
+module _ (rate : Rate) (drop : Flag) (a : Address) (z : ℤ) (found : Verdict) (judged : found ≡ verdictOf (refusalsOf rate drop a)) where
+  refused : (n : ℕ) → found ≡ Unsound n → Unplaced n ≡ plusOf rate drop a z
   unfolding plusOf
-  refused n e = refused-by Unplaced _ (refusalsOf mode drop a) found judged n e
+  refused n e = refused-by Unplaced _ (refusalsOf rate drop a) found judged n e
 
   moved :
-      (dropped : Bool) (day m n : ℕ) (y : ℤ) (b : Address) → dropped ≡ isYes drop → day ≡ framesInDay mode dropped
-      → m ≡ countOf (framesInSecond mode) dropped a → n ≡ sumOf day m y → y ≡ z → b ≡ addressAt (framesInSecond mode) dropped n
-      → found ≡ Sound → At b ≡ plusOf mode drop a z
+      (dropped : Bool) (day m n : ℕ) (y : ℤ) (b : Address) → dropped ≡ isYes drop → day ≡ framesInDay rate dropped
+      → m ≡ countOf (framesInSecond rate) dropped a → n ≡ sumOf day m y → y ≡ z → b ≡ addressAt (framesInSecond rate) dropped n
+      → found ≡ Sound → At b ≡ plusOf rate drop a z
   unfolding plusOf
   moved dropped day m n y b asked whole number total same e sound =
-      ap At (e ∙ rw (total, same, number, whole, asked)) ∙ passed-by Unplaced _ (refusalsOf mode drop a) found judged sound
+      ap At (e ∙ rw (total, same, number, whole, asked)) ∙ passed-by Unplaced _ (refusalsOf rate drop a) found judged sound
 
 below :
-    (mode day m n : ℕ) (drop : Bool) (z : ℤ) → day ≡ framesInDay mode drop → n ≡ sumOf day m z → n < 2592000
-below mode day m n drop z whole e =
-    omega (arith, day-small mode day drop whole, sum-below day (some-day mode day drop whole) m z)
+    (rate : Rate) (day m n : ℕ) (drop : Bool) (z : ℤ) → day ≡ framesInDay rate drop → n ≡ sumOf day m z → n < 2592000
+below rate day m n drop z whole e =
+    omega (arith, day-small rate day drop whole, sum-below day (some-day rate day drop whole) m z)
 
 judge-requires : tie.Need-judge-requires
 judge-requires c κs = search needs

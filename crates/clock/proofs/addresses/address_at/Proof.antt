@@ -1,4 +1,4 @@
--- `clock::addresses::address_at` meets its contract: the face of the number's place at the mode's rate.
+-- `clock::addresses::address_at` meets its contract: the face of the number's place at the rate's rate.
 -- Assumes nothing.
 use mathlib.Core.Path.{_≡_}
 use mathlib.Core.Bool.{Bool}
@@ -8,26 +8,27 @@ use native.Mathlib.Omega.{arith}
 use mir.Syntax.{w8}
 use mir.Val.{Fits}
 use borrow.Author.Needs.{needs}
-use Rattle.clock.specs.Modes.{framesInSecond}
+use Rattle.clock.specs.declared.types.Rate.{Rate}
+use Rattle.clock.specs.Rates.{framesInSecond}
 use Rattle.clock.specs.Counting.{placeAt, faceAt, addressAt}
 use Rattle.clock.proofs.Sizes.{rate-large, rate-small, some-rate, placeAt-small, hours-small}
 use Rattle.clock.proofs.addresses.address_at.Statement.{statement}
 use Rattle.clock.proofs.addresses.address_at.Tie as tie
 
-module _ (mode fps : ℕ) (rate : fps ≡ framesInSecond mode) where
+module _ (rate : Rate) (fps : ℕ) (pace : fps ≡ framesInSecond rate) where
   some : 0 < fps
-  some = rw rate (some-rate mode)
+  some = rw pace (some-rate rate)
 
   frames-fit : (p : ℕ) → Fits w8 (p % fps)
-  frames-fit p = let low : fps ≤ 30 = rw rate (rate-small mode) in record { fits = omega (arith, mod-lt p some) }
+  frames-fit p = let low : fps ≤ 30 = rw pace (rate-small rate) in record { fits = omega (arith, mod-lt p some) }
 
   hours-fit : (drop : Bool) (n p : ℕ) → n < 2592000 → p ≡ placeAt drop n → Fits w8 (p / fps / 60 / 60)
   hours-fit drop n p low e =
-      record { fits = hours-small fps p (rw rate (rate-large mode)) (rw e (placeAt-small drop n low)) }
+      record { fits = hours-small fps p (rw pace (rate-large rate)) (rw e (placeAt-small drop n low)) }
 
-  faced : (drop : Bool) (n p : ℕ) → p ≡ placeAt drop n → faceAt fps p ≡ addressAt (framesInSecond mode) drop n
+  faced : (drop : Bool) (n p : ℕ) → p ≡ placeAt drop n → faceAt fps p ≡ addressAt (framesInSecond rate) drop n
   unfolding addressAt
-  faced drop n p e = rw (rate, e)
+  faced drop n p e = rw (pace, e)
 
 frames-in-second-requires : tie.Need-frames-in-second-requires
 frames-in-second-requires c κs = search needs

@@ -3,24 +3,26 @@
 use mathlib.Core.Path.{_≡_}
 use Prim.Native.Nat.{ℕ}
 use borrow.Author.Needs.{needs}
+use Rattle.clock.specs.declared.types.Rate.{Rate}
 use Rattle.clock.specs.declared.types.Flag.{Flag}
 use Rattle.clock.specs.declared.types.Address.{Address}
-use Rattle.clock.specs.declared.types.Verdict.{Verdict}
-use Rattle.clock.specs.declared.types.Verdict.the-variants.{Sound, Refused as Unsound}
+use Rattle.refusals.specs.Answer.{verdictOf}
+use Rattle.refusals.specs.declared.types.Verdict.{Verdict}
+use Rattle.refusals.specs.declared.types.Verdict.the-variants.{Sound, Refused as Unsound}
 use Rattle.clock.specs.declared.types.Placed.the-variants.{At, Refused as Unplaced}
-use Rattle.clock.specs.Calls.{verdictOf, refusalsOf, fieldsOf}
-use Rattle.clock.proofs.Verdicts.{refused-by, passed-by}
+use Rattle.clock.specs.Calls.{refusalsOf, fieldsOf}
+use Rattle.refusals.proofs.Verdicts.{refused-by, passed-by}
 use Rattle.clock.proofs.addresses.address_from.Statement.{statement}
 use Rattle.clock.proofs.addresses.address_from.Tie as tie
 
-module _ (mode : ℕ) (drop : Flag) (a : Address) (found : Verdict) (judged : found ≡ verdictOf (refusalsOf mode drop a)) where
-  refused : (n : ℕ) → found ≡ Unsound n → Unplaced n ≡ fieldsOf mode drop a
+module _ (rate : Rate) (drop : Flag) (a : Address) (found : Verdict) (judged : found ≡ verdictOf (refusalsOf rate drop a)) where
+  refused : (n : ℕ) → found ≡ Unsound n → Unplaced n ≡ fieldsOf rate drop a
   unfolding fieldsOf
-  refused n e = refused-by Unplaced (At a) (refusalsOf mode drop a) found judged n e
+  refused n e = refused-by Unplaced (At a) (refusalsOf rate drop a) found judged n e
 
-  accepted : found ≡ Sound → At a ≡ fieldsOf mode drop a
+  accepted : found ≡ Sound → At a ≡ fieldsOf rate drop a
   unfolding fieldsOf
-  accepted sound = passed-by Unplaced (At a) (refusalsOf mode drop a) found judged sound
+  accepted sound = passed-by Unplaced (At a) (refusalsOf rate drop a) found judged sound
 
 judge-requires : tie.Need-judge-requires
 judge-requires c κs = search needs

@@ -1,4 +1,4 @@
--- `clock::counting::count` meets its contract: the place of the address at the mode's rate, less what drop-frame skips.
+-- `clock::counting::count` meets its contract: the place of the address at the rate's rate, less what drop-frame skips.
 -- Assumes nothing.
 use Prim.Native.Nat.{_<_}
 use native.Mathlib.Omega.{arith}
@@ -40,7 +40,7 @@ fits : (c : tie.After-struct-known4) → placeOf (c .before .before .before .bef
 fits c =
     let args = c .before .before .before .before .before .args in
     let call = c .before .before .before .before .frames-in-second in
-    small (args .mode) (call .result) (args .a) (call .ensures)
+    small (args .rate) (call .result) (args .a) (call .ensures)
     (record { hours = search needs; minutes = search needs; seconds = search needs; frames = search needs })
 
 mul-place-2 : tie.Need-mul-place-2
@@ -59,7 +59,7 @@ sub-number-2 : tie.Need-sub-number-2
 sub-number-2 c =
     let args = c .before .before .before .before .before .before .args in
     let call = c .before .before .before .before .before .frames-in-second in
-    omega (arith, large (args .mode) (call .result) (args .a) (call .ensures))
+    omega (arith, large (args .rate) (call .result) (args .a) (call .ensures))
 
 returns : tie.Need-returns
 returns c = search dropped

@@ -6,32 +6,34 @@ use Prim.Native.Nat.{ℕ}
 use lib.IntN.{ℤ}
 use mir.Facts.{toZ-ofZ}
 use borrow.Author.Needs.{needs}
+use Rattle.clock.specs.declared.types.Rate.{Rate}
 use Rattle.clock.specs.declared.types.Flag.{Flag}
 use Rattle.clock.specs.declared.types.Address.{Address}
-use Rattle.clock.specs.declared.types.Verdict.{Verdict}
-use Rattle.clock.specs.declared.types.Verdict.the-variants.{Sound, Refused as Unsound}
+use Rattle.refusals.specs.Answer.{verdictOf}
+use Rattle.refusals.specs.declared.types.Verdict.{Verdict}
+use Rattle.refusals.specs.declared.types.Verdict.the-variants.{Sound, Refused as Unsound}
 use Rattle.clock.specs.declared.types.Span.the-variants.{Frames, Refused as Unmeasured}
-use Rattle.clock.specs.Modes.{isYes, framesInSecond, framesInDay}
+use Rattle.clock.specs.Rates.{isYes, framesInSecond, framesInDay}
 use Rattle.clock.specs.Counting.{countOf, distanceOf}
-use Rattle.clock.specs.Calls.{verdictOf, refusalsOfTwo, spanOf}
-use Rattle.clock.proofs.Verdicts.{refused-by, passed-by}
+use Rattle.clock.specs.Calls.{refusalsOfTwo, spanOf}
+use Rattle.refusals.proofs.Verdicts.{refused-by, passed-by}
 use Rattle.clock.proofs.Sizes.{day-small, count-small}
 use Rattle.clock.proofs.numbers.distance.Statement.{statement}
 use Rattle.clock.proofs.numbers.distance.Tie as tie
 
 module _
-    (mode : ℕ) (drop : Flag) (from to : Address) (found : Verdict) (judged : found ≡ verdictOf (refusalsOfTwo mode drop from to)) where
-  refused : (n : ℕ) → found ≡ Unsound n → Unmeasured n ≡ spanOf mode drop from to
+    (rate : Rate) (drop : Flag) (from to : Address) (found : Verdict) (judged : found ≡ verdictOf (refusalsOfTwo rate drop from to)) where
+  refused : (n : ℕ) → found ≡ Unsound n → Unmeasured n ≡ spanOf rate drop from to
   unfolding spanOf
-  refused n e = refused-by Unmeasured _ (refusalsOfTwo mode drop from to) found judged n e
+  refused n e = refused-by Unmeasured _ (refusalsOfTwo rate drop from to) found judged n e
 
   measured :
-      (dropped : Bool) (day m n : ℕ) (z y : ℤ) → dropped ≡ isYes drop → day ≡ framesInDay mode dropped
-      → m ≡ countOf (framesInSecond mode) dropped from → n ≡ countOf (framesInSecond mode) dropped to
-      → z ≡ distanceOf day m n → y ≡ z → found ≡ Sound → Frames y ≡ spanOf mode drop from to
+      (dropped : Bool) (day m n : ℕ) (z y : ℤ) → dropped ≡ isYes drop → day ≡ framesInDay rate dropped
+      → m ≡ countOf (framesInSecond rate) dropped from → n ≡ countOf (framesInSecond rate) dropped to
+      → z ≡ distanceOf day m n → y ≡ z → found ≡ Sound → Frames y ≡ spanOf rate drop from to
   unfolding spanOf
   measured dropped day m n z y asked whole first second e same sound =
-      ap Frames (same ∙ e ∙ rw (whole, first, second, asked)) ∙ passed-by Unmeasured _ (refusalsOfTwo mode drop from to) found judged sound
+      ap Frames (same ∙ e ∙ rw (whole, first, second, asked)) ∙ passed-by Unmeasured _ (refusalsOfTwo rate drop from to) found judged sound
 
 judge-two-requires : tie.Need-judge-two-requires
 judge-two-requires c κs = search needs

@@ -4,31 +4,33 @@ use mathlib.Core.Path.{_≡_, ap, _∙_}
 use mathlib.Core.Bool.{Bool}
 use Prim.Native.Nat.{ℕ}
 use borrow.Author.Needs.{needs}
+use Rattle.clock.specs.declared.types.Rate.{Rate}
 use Rattle.clock.specs.declared.types.Flag.{Flag}
 use Rattle.clock.specs.declared.types.Address.{Address}
 use Rattle.clock.specs.declared.types.DayFrame.{DayFrame}
-use Rattle.clock.specs.declared.types.Verdict.{Verdict}
-use Rattle.clock.specs.declared.types.Verdict.the-variants.{Sound, Refused as Unsound}
+use Rattle.refusals.specs.Answer.{verdictOf}
+use Rattle.refusals.specs.declared.types.Verdict.{Verdict}
+use Rattle.refusals.specs.declared.types.Verdict.the-variants.{Sound, Refused as Unsound}
 use Rattle.clock.specs.declared.types.Numbered.the-variants.{Number, Refused as Unnumbered}
-use Rattle.clock.specs.Modes.{isYes, framesInSecond}
+use Rattle.clock.specs.Rates.{isYes, framesInSecond}
 use Rattle.clock.specs.Counting.{countOf}
-use Rattle.clock.specs.Calls.{verdictOf, refusalsOf, numberOf}
-use Rattle.clock.proofs.Verdicts.{refused-by, passed-by}
+use Rattle.clock.specs.Calls.{refusalsOf, numberOf}
+use Rattle.refusals.proofs.Verdicts.{refused-by, passed-by}
 use Rattle.clock.proofs.numbers.number_of.Statement.{statement}
 use Rattle.clock.proofs.numbers.number_of.Tie as tie
 
-module _ (mode : ℕ) (drop : Flag) (a : Address) (found : Verdict) (judged : found ≡ verdictOf (refusalsOf mode drop a)) where
-  refused : (n : ℕ) → found ≡ Unsound n → Unnumbered n ≡ numberOf mode drop a
+module _ (rate : Rate) (drop : Flag) (a : Address) (found : Verdict) (judged : found ≡ verdictOf (refusalsOf rate drop a)) where
+  refused : (n : ℕ) → found ≡ Unsound n → Unnumbered n ≡ numberOf rate drop a
   unfolding numberOf
-  refused n e = refused-by Unnumbered _ (refusalsOf mode drop a) found judged n e
+  refused n e = refused-by Unnumbered _ (refusalsOf rate drop a) found judged n e
 
   counted :
-      (dropped : Bool) (n : DayFrame) → dropped ≡ isYes drop → n .0 ≡ countOf (framesInSecond mode) dropped a → found ≡ Sound
-      → Number n ≡ numberOf mode drop a
+      (dropped : Bool) (n : DayFrame) → dropped ≡ isYes drop → n .0 ≡ countOf (framesInSecond rate) dropped a → found ≡ Sound
+      → Number n ≡ numberOf rate drop a
   unfolding numberOf
   counted dropped n asked e sound =
-      ap (λ (k : ℕ). Number (record { 0 = k })) (e ∙ ap (λ (d : Bool). countOf (framesInSecond mode) d a) asked)
-      ∙ passed-by Unnumbered _ (refusalsOf mode drop a) found judged sound
+      ap (λ (k : ℕ). Number (record { 0 = k })) (e ∙ ap (λ (d : Bool). countOf (framesInSecond rate) d a) asked)
+      ∙ passed-by Unnumbered _ (refusalsOf rate drop a) found judged sound
 
 judge-requires : tie.Need-judge-requires
 judge-requires c κs = search needs

@@ -12,9 +12,9 @@ use Rattle.lines.proofs.telling.address_text.Tie as tie
 -- a space and the address, with this character before the frames
 abbrev withMark : Record → ℕ → List ℕ
 withMark r mark =
-    space ∷ (twoDigits (r .hours) ++ (colon ∷ twoDigits (r .minutes)) ++ (colon ∷ twoDigits (r .seconds)) ++ (mark ∷ twoDigits (r .frames .0)))
+    space ∷ (twoDigits (r .address .hours) ++ (colon ∷ twoDigits (r .address .minutes)) ++ (colon ∷ twoDigits (r .address .seconds)) ++ (mark ∷ twoDigits (r .address .frames .0)))
 
-addressed : (r : Record) (mark : ℕ) (text : List ℕ) → mark ≡ beforeFrames (r .drop) → text ≡ withMark r mark → text ≡ space ∷ addressText r
+addressed : (r : Record) (mark : ℕ) (text : List ℕ) → mark ≡ beforeFrames (r .flags .drop) → text ≡ withMark r mark → text ≡ space ∷ addressText r
 unfolding addressText
 addressed r mark text told made = made ∙ ap (withMark r) told
 
@@ -25,7 +25,7 @@ clock-text-requires : tie.Need-clock-text-requires
 clock-text-requires c κs = search needs
 
 returns : tie.Need-returns
-returns c = addressed (c .before .before .before .args .r) _ _ (c .before .before-frames .ensures) (c .clock-text .ensures)
+returns c = addressed _ _ _ (c .before .before-frames .ensures) (c .clock-text .ensures)
 
 pub address-text-spec : {M : Type 1} → statement M
 address-text-spec = tie.close (tie.spec before-frames-requires clock-text-requires returns)

@@ -4,24 +4,24 @@ use borrow.Author.Needs.{needs}
 use Prim.Native.Nat.{ℕ}
 use mathlib.Core.Path.{_≡_}
 use mathlib.Core.List.{[], _∷_, _++_}
-use Rattle.record.specs.declared.types.Record.{Record}
+use Rattle.record.specs.declared.types.Groups.{Groups}
 use Rattle.lines.specs.Lines.{space, lineFeed, hexDigit, groupsText}
 use Rattle.lines.proofs.telling.groups_text.Statement.{statement}
 use Rattle.lines.proofs.telling.groups_text.Tie as tie
 
 grouped :
-    (r : Record) {a b c d e f g h : ℕ}
-    → a ≡ hexDigit (r .group1)
-    → b ≡ hexDigit (r .group2)
-    → c ≡ hexDigit (r .group3)
-    → d ≡ hexDigit (r .group4)
-    → e ≡ hexDigit (r .group5)
-    → f ≡ hexDigit (r .group6)
-    → g ≡ hexDigit (r .group7)
-    → h ≡ hexDigit (r .group8)
-    → space ∷ a ∷ b ∷ c ∷ d ∷ e ∷ f ∷ g ∷ h ∷ lineFeed ∷ [] ≡ (space ∷ groupsText r) ++ (lineFeed ∷ [])
+    (k : Groups) {a b c d e f g h : ℕ}
+    → a ≡ hexDigit (k .group1)
+    → b ≡ hexDigit (k .group2)
+    → c ≡ hexDigit (k .group3)
+    → d ≡ hexDigit (k .group4)
+    → e ≡ hexDigit (k .group5)
+    → f ≡ hexDigit (k .group6)
+    → g ≡ hexDigit (k .group7)
+    → h ≡ hexDigit (k .group8)
+    → space ∷ a ∷ b ∷ c ∷ d ∷ e ∷ f ∷ g ∷ h ∷ lineFeed ∷ [] ≡ (space ∷ groupsText k) ++ (lineFeed ∷ [])
 unfolding groupsText
-grouped r p₁ p₂ p₃ p₄ p₅ p₆ p₇ p₈ = λ i. space ∷ p₁ i ∷ p₂ i ∷ p₃ i ∷ p₄ i ∷ p₅ i ∷ p₆ i ∷ p₇ i ∷ p₈ i ∷ lineFeed ∷ []
+grouped k p₁ p₂ p₃ p₄ p₅ p₆ p₇ p₈ = λ i. space ∷ p₁ i ∷ p₂ i ∷ p₃ i ∷ p₄ i ∷ p₅ i ∷ p₆ i ∷ p₇ i ∷ p₈ i ∷ lineFeed ∷ []
 
 hex-digit-requires : tie.Need-hex-digit-requires
 hex-digit-requires c κs = search needs

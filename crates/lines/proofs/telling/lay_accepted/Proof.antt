@@ -15,7 +15,7 @@ accepted :
     (r : Record) (text : List ℕ) (at : ℕ) {address groups mid out : List ℕ} {p q : ℕ}
     → at + (length address + length groups) ≤ length text
     → address ≡ space ∷ addressText r
-    → groups ≡ (space ∷ groupsText r) ++ (lineFeed ∷ [])
+    → groups ≡ (space ∷ groupsText (r .groups)) ++ (lineFeed ∷ [])
     → Appended address at text p mid
     → Appended groups p mid q out
     → Stands (acceptedText r) at text q out
@@ -46,7 +46,7 @@ same-length c = search needs
 
 returns : tie.Need-returns
 returns c =
-    accepted _ _ _ (search needs) (c .before .before .before .before .before .before .before .before .before .before .before .address-text .ensures) (c .before .before .before .before .before .before .before .before .before .before .groups-text .ensures) (c .before .before .before .before .before .before .before .append .ensures) (c .before .before .append2 .ensures)
+    accepted _ _ _ (search needs) (c .before .before .before .before .before .before .before .before .before .before .before .before .address-text .ensures) (c .before .before .before .before .before .before .before .before .before .before .groups-text .ensures) (c .before .before .before .before .before .before .before .append .ensures) (c .before .before .append2 .ensures)
 
 pub lay-accepted-spec : {M : Type 1} → statement M
 lay-accepted-spec =

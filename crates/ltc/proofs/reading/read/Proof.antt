@@ -8,6 +8,9 @@ use Rattle.ltc.proofs.reading.read.Tie as tie
 returns : tie.Need-returns
 returns c = search wrong-size
 
+is-unknown-requires : tie.Need-is-unknown-requires
+is-unknown-requires c κs = search needs
+
 returns-2 : tie.Need-returns-2
 returns-2 c = search no-mode
 
@@ -61,6 +64,7 @@ read-spec =
     tie.close
     (tie.spec
     returns
+    is-unknown-requires
     returns-2
     sub-gather
     part-gather-start

@@ -3,39 +3,42 @@
 use mathlib.Core.Path.{_≡_, ap, sym, _∙_}
 use mathlib.Core.Bool.{Bool, true, false}
 use Prim.Native.Nat.{ℕ}
-use lib.Dec.{ltb}
 use borrow.Author.Needs.{needs}
 use Rattle.clock.specs.declared.types.Flag.the-variants.{No}
 use Rattle.record.specs.declared.types.Record.{Record}
 use Rattle.record.specs.declared.types.Unpacked.{Unpacked}
 use Rattle.record.specs.declared.types.Unpacked.the-variants.{Holds, Refused as Unheld}
-use Rattle.record.specs.Calls.{unpackedOf}
 use Rattle.record.specs.Record.{marked}
+use Rattle.modes.specs.Modes.{unknown}
+use Rattle.modes.specs.Calls.{unpackedIn}
 use Rattle.ltc.specs.Word.{wordWith, oddZeros}
 use Rattle.ltc.specs.Calls.{heardOf}
-use Rattle.ltc.proofs.Heard.{unmarked, heard-is}
+use Rattle.ltc.proofs.Heard.{withoutMark, heard-is}
 use Rattle.ltc.proofs.reading.read_info.Statement.{statement}
 use Rattle.ltc.proofs.reading.read_info.Tie as tie
 
-module _ (mode info : ℕ) where
-  no-mode : ltb 2 mode ≡ true → Unheld 2 ≡ heardOf mode info
+module _ (mode info : ℕ) (past : Bool) (asked : past ≡ unknown mode) where
+  no-mode : past ≡ true → Unheld 2 ≡ heardOf mode info
   unfolding heardOf
-  no-mode e = rw e
+  no-mode e = rw (← asked, e)
 
   module _ (odd : Bool) (tested : odd ≡ oddZeros (wordWith info)) where
-    odd-zeros : ltb 2 mode ≡ false → odd ≡ true → Unheld 5 ≡ heardOf mode info
+    odd-zeros : past ≡ false → odd ≡ true → Unheld 5 ≡ heardOf mode info
     unfolding heardOf
-    odd-zeros known e = rw (known, ← tested, e)
+    odd-zeros known e = rw (← asked, known, ← tested, e)
 
-    module _ (even : odd ≡ false) (found : Unpacked) (told : found ≡ unpackedOf mode info) where
-      heard : unmarked found ≡ heardOf mode info
-      heard = ap unmarked told ∙ sym (heard-is mode info (sym tested ∙ even))
+    module _ (even : odd ≡ false) (found : Unpacked) (told : found ≡ unpackedIn mode info) where
+      heard : withoutMark found ≡ heardOf mode info
+      heard = ap withoutMark told ∙ sym (heard-is mode info (sym tested ∙ even))
 
       refused : (n : ℕ) → found ≡ Unheld n → Unheld n ≡ heardOf mode info
-      refused n e = ap unmarked (sym e) ∙ heard
+      refused n e = ap withoutMark (sym e) ∙ heard
 
       held : (r s : Record) → found ≡ Holds r → s ≡ marked No r → Holds s ≡ heardOf mode info
-      held r s e taken-off = ap Holds taken-off ∙ (ap unmarked (sym e) ∙ heard)
+      held r s e taken-off = ap Holds taken-off ∙ (ap withoutMark (sym e) ∙ heard)
+
+is-unknown-requires : tie.Need-is-unknown-requires
+is-unknown-requires c κs = search needs
 
 returns : tie.Need-returns
 returns c = search no-mode
@@ -55,8 +58,8 @@ enum-known-found c = search needs
 enum-known-found-2 : tie.Need-enum-known-found-2
 enum-known-found-2 c = search needs
 
-with-mark-requires : tie.Need-with-mark-requires
-with-mark-requires c κs = search needs
+unmarked-requires : tie.Need-unmarked-requires
+unmarked-requires c κs = search needs
 
 returns-3 : tie.Need-returns-3
 returns-3 c = search refused
@@ -68,12 +71,13 @@ pub read-info-spec : {M : Type 1} → statement M
 read-info-spec =
     tie.close
     (tie.spec
+    is-unknown-requires
     returns
     has-odd-zeros-requires
     returns-2
     from-bits-requires
     enum-known-found
     enum-known-found-2
-    with-mark-requires
+    unmarked-requires
     returns-3
     returns-4)

@@ -1,8 +1,11 @@
 -- `ltc::writing::write` meets its contract: a refused write leaves the run as it was, and a write that is done has the word in its middle.
 -- Assumes nothing.
+use Prim.Native.Nat.{_+_, _≤_}
 use native.Mathlib.Omega.{arith}
+use lib.ListN.{length}
 use borrow.Author.Needs.{needs}
-use Rattle.ltc.proofs.WriteTests.{by-the-record, made, with-a-mark, past-the-end, too-few, done}
+use Rattle.runs.proofs.Written.{room-told}
+use Rattle.ltc.proofs.WriteTests.{by-the-record, with-a-mark, free, without-room, done}
 use Rattle.ltc.proofs.writing.write.Statement.{statement}
 use Rattle.ltc.proofs.writing.write.Tie as tie
 
@@ -19,22 +22,25 @@ is-yes-requires : tie.Need-is-yes-requires
 is-yes-requires c κs = search needs
 
 returns : tie.Need-returns
-returns c = with-a-mark _ _ _ _ _ (c .before .before .before .before .before .to-bits .ensures) _ (c .before .before .before .found2 .given .1) _ (c .before .is-yes .ensures) (search needs)
+returns c =
+    with-a-mark _ _ _ _ _ (c .before .before .before .before .before .to-bits .ensures) _ (c .before .before .before .found2 .given .1) _ (c .before .is-yes .ensures) (search needs)
+
+lacks-room-requires : tie.Need-lacks-room-requires
+lacks-room-requires c κs = search needs
 
 returns-2 : tie.Need-returns-2
-returns-2 c = past-the-end _ _ _ _ _ (c .before .before .before .before .before .before .to-bits .ensures) _ (c .before .before .before .before .found2 .given .1) _ (c .before .before .is-yes .ensures) (search needs) (omega arith)
-
-sub-if3 : tie.Need-sub-if3
-sub-if3 c = search needs
-
-returns-3 : tie.Need-returns-3
-returns-3 c = too-few _ _ _ _ _ (c .before .before .before .before .before .before .before .to-bits .ensures) _ (c .before .before .before .before .before .found2 .given .1) _ (c .before .before .before .is-yes .ensures) (search needs) (omega arith) (omega arith)
+returns-2 c =
+    without-room _ _ _ _ _ (c .before .before .before .before .before .before .before .to-bits .ensures) _ (c .before .before .before .before .before .found2 .given .1) _ (c .before .before .before .is-yes .ensures) (search needs) _ (c .before .lacks-room .ensures) (search needs)
 
 corrected-requires : tie.Need-corrected-requires
-corrected-requires c κs = search made
+corrected-requires c κs = search free
+
+-- once the room has been tested, the word ends within the run
+room : (c : tie.After-corrected) → c .before .before .before .before .before .before .before .before .before .before .before .args .start + 80 ≤ length (c .before .before .before .before .before .before .before .before .before .before .before .args .run .now)
+room c = room-told _ _ _ _ (c .before .before .lacks-room .ensures) (search needs)
 
 add-end : tie.Need-add-end
-add-end c = search needs
+add-end c = omega (arith, room c)
 
 sub-store : tie.Need-sub-store
 sub-store c = search needs
@@ -43,19 +49,21 @@ part-store-start : tie.Need-part-store-start
 part-store-start c = search needs
 
 part-store-end : tie.Need-part-store-end
-part-store-end c = search needs
+part-store-end c = omega (arith, room c)
 
 store-requires : tie.Need-store-requires
 store-requires c κs = search needs
 
-returns-4 : tie.Need-returns-4
-returns-4 c = by-the-record _ _ _ _ _ (c .before .before .before .to-bits .ensures) _ (search needs)
+returns-3 : tie.Need-returns-3
+returns-3 c = by-the-record _ _ _ _ _ (c .before .before .before .to-bits .ensures) _ (search needs)
 
 same-length : tie.Need-same-length
 same-length c = search needs
 
-returns-5 : tie.Need-returns-5
-returns-5 c = done _ _ _ _ _ (c .before .before .before .before .before .before .before .before .before .before .before .before .to-bits .ensures) _ (c .before .before .before .before .before .before .before .before .before .before .found2 .given .1) _ (c .before .before .before .before .before .before .before .before .is-yes .ensures) (search needs) (omega arith) (omega arith) _ _ (search needs) (c .before .before .store .ensures)
+returns-4 : tie.Need-returns-4
+returns-4 c =
+    done _ _ _ _ _ (c .before .before .before .before .before .before .before .before .before .before .before .before .to-bits .ensures) _ (c .before .before .before .before .before .before .before .before .before .before .found2 .given .1) _ (c .before .before .before .before .before .before .before .before .is-yes .ensures) (search needs) _ (c .before .before .before .before .before .before .lacks-room .ensures) (search needs)
+    _ _ (c .before .before .before .before .corrected .ensures) (c .before .before .store .ensures)
 
 pub write-spec : {M : Type 1} → statement M
 write-spec =
@@ -66,15 +74,14 @@ write-spec =
     enum-known-found-2
     is-yes-requires
     returns
+    lacks-room-requires
     returns-2
-    sub-if3
-    returns-3
     corrected-requires
     add-end
     sub-store
     part-store-start
     part-store-end
     store-requires
-    returns-4
+    returns-3
     same-length
-    returns-5)
+    returns-4)

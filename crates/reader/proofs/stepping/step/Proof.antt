@@ -4,9 +4,9 @@ use mathlib.Core.Path.{_≡_, sym, _∙_}
 use mathlib.Core.Bool.{Bool, true, false}
 use Prim.Native.Nat.{ℕ, _^_, _≤_, _<_}
 use native.Mathlib.Omega.{arith}
-use lib.Dec.{ltb}
 use borrow.Author.Tests.{lt-ltb}
 use borrow.Author.Needs.{needs}
+use Rattle.modes.specs.Modes.{unknown}
 use Rattle.reader.specs.declared.types.Reader.{Reader}
 use Rattle.reader.specs.declared.types.Heard.{Heard}
 use Rattle.reader.specs.declared.types.Heard.the-variants.{Refused}
@@ -16,12 +16,15 @@ use Rattle.reader.proofs.Taken.{next-passes, step-taken}
 use Rattle.reader.proofs.stepping.step.Statement.{statement}
 use Rattle.reader.proofs.stepping.step.Tie as tie
 
-module _ (r : Reader) (element : ℕ) where
-  no-mode : ltb 2 (r .mode) ≡ true → after r (Refused 2) ≡ steppedOf r element
+module _ (r : Reader) (element : ℕ) (past : Bool) (asked : past ≡ unknown (r .mode)) where
+  no-mode : past ≡ true → after r (Refused 2) ≡ steppedOf r element
   unfolding steppedOf
-  no-mode e = rw e
+  no-mode e = rw (← asked, e)
 
-  module _ (known : ltb 2 (r .mode) ≡ false) (state : Bool) (tested : state ≡ unreached r) where
+  module _ (within : past ≡ false) (state : Bool) (tested : state ≡ unreached r) where
+    known : unknown (r .mode) ≡ false
+    known = sym asked ∙ within
+
     no-state : state ≡ true → after r (Refused 13) ≡ steppedOf r element
     unfolding steppedOf
     no-state e = rw (known, ← tested, e)
@@ -43,6 +46,9 @@ module _ (r : Reader) (element : ℕ) where
             (next : Reader) (heard : Heard) → next ≡ readerWith (r .mode) (push (heldBits r) element)
             → heard ≡ heardIn (next .mode) (heldBits next) → after next heard ≡ steppedOf r element
         taken next heard pushes = step-taken r element low high passed bit known next pushes heard
+
+is-unknown-requires : tie.Need-is-unknown-requires
+is-unknown-requires c κs = search needs
 
 returns : tie.Need-returns
 returns c = search no-mode
@@ -69,6 +75,7 @@ pub step-spec : {M : Type 1} → statement M
 step-spec =
     tie.close
     (tie.spec
+    is-unknown-requires
     returns
     is-unreached-requires
     returns-2

@@ -4,41 +4,37 @@ use mathlib.Core.Path.{_≡_, ap, _∙_}
 use mathlib.Core.Bool.{Bool}
 use Prim.Native.Nat.{ℕ}
 use borrow.Author.Needs.{needs}
-use Rattle.clock.specs.declared.types.Address.{Address}
-use Rattle.clock.specs.declared.types.Verdict.{Verdict}
-use Rattle.clock.specs.declared.types.Verdict.the-variants.{Sound, Refused as Unsound}
-use Rattle.clock.specs.Calls.{verdictOf}
-use Rattle.clock.proofs.Verdicts.{refused-by, passed-by}
+use Rattle.refusals.specs.declared.types.Verdict.{Verdict}
+use Rattle.refusals.specs.declared.types.Verdict.the-variants.{Sound, Refused as Unsound}
+use Rattle.refusals.specs.Answer.{verdictOf}
+use Rattle.refusals.proofs.Verdicts.{refused-by, passed-by}
+use Rattle.clock.specs.declared.types.Rate.{Rate}
 use Rattle.record.specs.declared.types.Record.{Record}
 use Rattle.record.specs.declared.types.Unpacked.the-variants.{Holds, Refused as Unheld}
-use Rattle.record.specs.Record.{recordOf, addressIn, digitAbove9}
-use Rattle.record.specs.Calls.{fieldRefusals, bitsRefusals, withMode, unpackedOf}
+use Rattle.record.specs.Record.{recordOf, digitAbove9}
+use Rattle.record.specs.Calls.{recordRefusals, bitsRefusals, unpackedOf}
 use Rattle.record.proofs.reading.from_bits.Statement.{statement}
 use Rattle.record.proofs.reading.from_bits.Tie as tie
 
 module _
-    (mode info : ℕ) (r : Record) (bad : Bool) (a : Address) (found : Verdict) (read : r ≡ recordOf mode info)
-    (tested : bad ≡ digitAbove9 info) (placed : a ≡ addressIn r)
-    (judged : found ≡ verdictOf (withMode mode (fieldRefusals mode bad a (r .drop) (r .colour)))) where
-  judged-so : found ≡ verdictOf (withMode mode (bitsRefusals mode info))
-  judged-so = judged ∙ rw (tested, placed, read)
+    (rate : Rate) (info : ℕ) (r : Record) (bad : Bool) (found : Verdict) (read : r ≡ recordOf rate info) (tested : bad ≡ digitAbove9 info)
+    (judged : found ≡ verdictOf (recordRefusals rate bad r)) where
+  judged-so : found ≡ verdictOf (bitsRefusals rate info)
+  judged-so = judged ∙ rw (tested, read)
 
-  refused : (n : ℕ) → found ≡ Unsound n → Unheld n ≡ unpackedOf mode info
+  refused : (n : ℕ) → found ≡ Unsound n → Unheld n ≡ unpackedOf rate info
   unfolding unpackedOf
-  refused n e = refused-by Unheld _ (withMode mode (bitsRefusals mode info)) found judged-so n e
+  refused n e = refused-by Unheld _ (bitsRefusals rate info) found judged-so n e
 
-  held : found ≡ Sound → Holds r ≡ unpackedOf mode info
+  held : found ≡ Sound → Holds r ≡ unpackedOf rate info
   unfolding unpackedOf
-  held sound = ap Holds read ∙ passed-by Unheld _ (withMode mode (bitsRefusals mode info)) found judged-so sound
+  held sound = ap Holds read ∙ passed-by Unheld _ (bitsRefusals rate info) found judged-so sound
 
 record-at-requires : tie.Need-record-at-requires
 record-at-requires c κs = search needs
 
 has-bad-digit-requires : tie.Need-has-bad-digit-requires
 has-bad-digit-requires c κs = search needs
-
-address-in-requires : tie.Need-address-in-requires
-address-in-requires c κs = search needs
 
 judge-requires : tie.Need-judge-requires
 judge-requires c κs = search needs
@@ -61,7 +57,6 @@ from-bits-spec =
     (tie.spec
     record-at-requires
     has-bad-digit-requires
-    address-in-requires
     judge-requires
     enum-known-found
     enum-told

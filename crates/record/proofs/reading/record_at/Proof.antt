@@ -1,54 +1,37 @@
--- `record::reading::record_at` meets its contract: at 25 frames the flags stand at their own places.
+-- `record::reading::record_at` meets its contract: an address, flags and groups.
 -- Assumes nothing.
-use mathlib.Core.Path.{_≡_, _∙_}
+use mathlib.Core.Path.{_≡_}
 use Prim.Native.Nat.{ℕ}
 use borrow.Author.Needs.{needs}
-use Rattle.clock.specs.declared.types.Flag.{Flag}
+use Rattle.clock.specs.declared.types.Rate.{Rate}
+use Rattle.clock.specs.declared.types.Address.{Address}
+use Rattle.record.specs.declared.types.Flags.{Flags}
+use Rattle.record.specs.declared.types.Groups.{Groups}
 use Rattle.record.specs.declared.types.Record.{Record}
-use Rattle.record.specs.Flags.{flagAt}
-use Rattle.record.specs.Record.{recordWith, recordOf}
-use Rattle.record.proofs.Places.{at25, not-at25}
+use Rattle.record.specs.Flags.{places}
+use Rattle.record.specs.Record.{addressIn, flagsIn, groupsIn, recordOf}
 use Rattle.record.proofs.reading.record_at.Statement.{statement}
 use Rattle.record.proofs.reading.record_at.Tie as tie
 
-module _ (mode info : ℕ) (at27 at43 at59 : Flag) (r : Record) where
-  with-25 : at27 ≡ flagAt 27 info → at43 ≡ flagAt 43 info → at59 ≡ flagAt 59 info → mode ≡ 1 → r ≡ recordWith info at59 at27 at43 → r ≡ recordOf mode info
-  unfolding recordOf
-  with-25 a b c m e = e ∙ rw (a, b, c, at25 mode m)
+whole :
+    (rate : Rate) (info : ℕ) (a : Address) (f : Flags) (g : Groups)
+    → a ≡ addressIn info → f ≡ flagsIn (places rate) info → g ≡ groupsIn info
+    → record { address = a; flags = f; groups = g } ≡ recordOf rate info
+unfolding recordOf
+whole rate info a f g at by in-four = λ i. record { address = at i; flags = by i; groups = in-four i }
 
-  with-other : at27 ≡ flagAt 27 info → at43 ≡ flagAt 43 info → at59 ≡ flagAt 59 info → (mode ≡ 1 → ⊥) → r ≡ recordWith info at27 at43 at59 → r ≡ recordOf mode info
-  unfolding recordOf
-  with-other a b c m e = e ∙ rw (a, b, c, not-at25 mode m)
+address-in-requires : tie.Need-address-in-requires
+address-in-requires c κs = search needs
 
-flag-requires : tie.Need-flag-requires
-flag-requires c κs = search needs
+flags-in-requires : tie.Need-flags-in-requires
+flags-in-requires c κs = search needs
 
-flag-requires-2 : tie.Need-flag-requires-2
-flag-requires-2 c κs = search needs
-
-flag-requires-3 : tie.Need-flag-requires-3
-flag-requires-3 c κs = search needs
-
-record-with-requires : tie.Need-record-with-requires
-record-with-requires c κs = search needs
+groups-in-requires : tie.Need-groups-in-requires
+groups-in-requires c κs = search needs
 
 returns : tie.Need-returns
-returns c = search with-25
-
-record-with-requires-2 : tie.Need-record-with-requires-2
-record-with-requires-2 c κs = search needs
-
-returns-2 : tie.Need-returns-2
-returns-2 c = search with-other
+returns c = search whole
 
 pub record-at-spec : {M : Type 1} → statement M
 record-at-spec =
-    tie.close
-    (tie.spec
-    flag-requires
-    flag-requires-2
-    flag-requires-3
-    record-with-requires
-    returns
-    record-with-requires-2
-    returns-2)
+    tie.close (tie.spec address-in-requires flags-in-requires groups-in-requires returns)

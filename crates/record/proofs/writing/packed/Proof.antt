@@ -10,40 +10,39 @@ use Rattle.record.proofs.writing.packed.Tie as tie
 -- each quarter, where all four are known
 below :
     (c : tie.After-quarter4)
-    → (c .before .before .before .before .before .before .quarter .result < 65536)
-    × ((c .before .before .before .before .quarter2 .result < 65536)
-    × ((c .before .before .quarter3 .result < 65536) × (c .quarter4 .result < 65536)))
+    → (c .before .before .before .quarter .result < 65536)
+    × ((c .before .before .quarter2 .result < 65536) × ((c .before .quarter3 .result < 65536) × (c .quarter4 .result < 65536)))
 below c =
-    let w = c .before .before .before .before .before .before .before .pre in
-    let first = c .before .before .before .before .before .before .quarter .ensures in
+    let w = c .before .before .before .before .before .before .before .before .before .before .pre in
+    let first = c .before .before .before .quarter .ensures in
     let fourth = c .quarter4 .ensures in (
       small _ _ _ _ _ _ first (omega (arith, first .flag, w .frames)) (w .group1) (w .group2),
       (
-        small _ _ _ _ _ _ (c .before .before .before .before .quarter2 .ensures) (omega (arith, w .seconds)) (w .group3) (w .group4),
+        small _ _ _ _ _ _ (c .before .before .quarter2 .ensures) (omega (arith, w .seconds)) (w .group3) (w .group4),
         (
-          small _ _ _ _ _ _ (c .before .before .quarter3 .ensures) (omega (arith, w .minutes)) (w .group5) (w .group6),
+          small _ _ _ _ _ _ (c .before .quarter3 .ensures) (omega (arith, w .minutes)) (w .group5) (w .group6),
           small _ _ _ _ _ _ fourth (omega (arith, fourth .flag, w .hours)) (w .group7) (w .group8),
         ),
       ),
     )
 
-quarter-requires : tie.Need-quarter-requires
-quarter-requires c κs = search needs
-
 by-25-requires : tie.Need-by-25-requires
 by-25-requires c κs = search needs
-
-quarter-requires-2 : tie.Need-quarter-requires-2
-quarter-requires-2 c κs = search needs
 
 by-25-requires-2 : tie.Need-by-25-requires-2
 by-25-requires-2 c κs = search needs
 
-quarter-requires-3 : tie.Need-quarter-requires-3
-quarter-requires-3 c κs = search needs
-
 by-25-requires-3 : tie.Need-by-25-requires-3
 by-25-requires-3 c κs = search needs
+
+quarter-requires : tie.Need-quarter-requires
+quarter-requires c κs = search needs
+
+quarter-requires-2 : tie.Need-quarter-requires-2
+quarter-requires-2 c κs = search needs
+
+quarter-requires-3 : tie.Need-quarter-requires-3
+quarter-requires-3 c κs = search needs
 
 quarter-requires-4 : tie.Need-quarter-requires-4
 quarter-requires-4 c κs = search needs
@@ -73,12 +72,12 @@ pub packed-spec : {M : Type 1} → statement M
 packed-spec =
     tie.close
     (tie.spec
-    quarter-requires
     by-25-requires
-    quarter-requires-2
     by-25-requires-2
-    quarter-requires-3
     by-25-requires-3
+    quarter-requires
+    quarter-requires-2
+    quarter-requires-3
     quarter-requires-4
     mul-result
     add-result

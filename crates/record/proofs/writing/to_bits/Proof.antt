@@ -4,42 +4,39 @@ use mathlib.Core.Path.{_≡_, ap, _∙_}
 use mathlib.Core.Bool.{Bool}
 use Prim.Native.Nat.{ℕ}
 use borrow.Author.Needs.{needs}
-use Rattle.clock.specs.declared.types.Address.{Address}
-use Rattle.clock.specs.declared.types.Verdict.{Verdict}
-use Rattle.clock.specs.declared.types.Verdict.the-variants.{Sound, Refused as Unsound}
-use Rattle.clock.specs.Calls.{verdictOf}
-use Rattle.clock.proofs.Verdicts.{refused-by, passed-by, sound-clear}
+use Rattle.clock.specs.declared.types.Rate.{Rate}
+use Rattle.refusals.specs.declared.types.Verdict.{Verdict}
+use Rattle.refusals.specs.declared.types.Verdict.the-variants.{Sound, Refused as Unsound}
+use Rattle.refusals.specs.Answer.{verdictOf}
+use Rattle.refusals.proofs.Verdicts.{refused-by, passed-by, sound-clear}
 use Rattle.record.specs.declared.types.Record.{Record}
 use Rattle.record.specs.declared.types.Packed.the-variants.{Bits, Refused as Unpackable}
-use Rattle.record.specs.Record.{infoOf, addressIn, groupAbove15}
+use Rattle.record.specs.Record.{infoOf, groupAbove15}
 use Rattle.record.specs.Fits.{Writable}
-use Rattle.record.specs.Calls.{fieldRefusals, writeRefusals, withMode, packedOf}
+use Rattle.record.specs.Calls.{recordRefusals, writeRefusals, packedOf}
 use Rattle.record.proofs.Accepted.{writable}
 use Rattle.record.proofs.writing.to_bits.Statement.{statement}
 use Rattle.record.proofs.writing.to_bits.Tie as tie
 
 module _
-    (mode : ℕ) (r : Record) (bad : Bool) (a : Address) (found : Verdict) (tested : bad ≡ groupAbove15 r) (placed : a ≡ addressIn r)
-    (judged : found ≡ verdictOf (withMode mode (fieldRefusals mode bad a (r .drop) (r .colour)))) where
-  judged-so : found ≡ verdictOf (withMode mode (writeRefusals mode r))
-  judged-so = judged ∙ rw (tested, placed)
+    (rate : Rate) (r : Record) (bad : Bool) (found : Verdict) (tested : bad ≡ groupAbove15 (r .groups))
+    (judged : found ≡ verdictOf (recordRefusals rate bad r)) where
+  judged-so : found ≡ verdictOf (writeRefusals rate r)
+  judged-so = judged ∙ rw tested
 
-  fits : found ≡ Sound → Writable r
-  fits sound = writable mode r (sound-clear Unpackable (Unpackable 0) (withMode mode (writeRefusals mode r)) found judged-so sound)
+  fits : found ≡ Sound → Writable (r .address) (r .groups)
+  fits sound = writable rate r (sound-clear Unpackable (Unpackable 0) (writeRefusals rate r) found judged-so sound)
 
-  refused : (n : ℕ) → found ≡ Unsound n → Unpackable n ≡ packedOf mode r
+  refused : (n : ℕ) → found ≡ Unsound n → Unpackable n ≡ packedOf rate r
   unfolding packedOf
-  refused n e = refused-by Unpackable _ (withMode mode (writeRefusals mode r)) found judged-so n e
+  refused n e = refused-by Unpackable _ (writeRefusals rate r) found judged-so n e
 
-  made : (n : ℕ) → n ≡ infoOf mode r → found ≡ Sound → Bits n ≡ packedOf mode r
+  made : (n : ℕ) → n ≡ infoOf rate r → found ≡ Sound → Bits n ≡ packedOf rate r
   unfolding packedOf
-  made n e sound = ap Bits e ∙ passed-by Unpackable _ (withMode mode (writeRefusals mode r)) found judged-so sound
+  made n e sound = ap Bits e ∙ passed-by Unpackable _ (writeRefusals rate r) found judged-so sound
 
 has-high-group-requires : tie.Need-has-high-group-requires
 has-high-group-requires c κs = search needs
-
-address-in-requires : tie.Need-address-in-requires
-address-in-requires c κs = search needs
 
 judge-requires : tie.Need-judge-requires
 judge-requires c κs = search needs
@@ -64,7 +61,6 @@ to-bits-spec =
     tie.close
     (tie.spec
     has-high-group-requires
-    address-in-requires
     judge-requires
     enum-known-found
     enum-told

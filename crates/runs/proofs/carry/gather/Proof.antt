@@ -8,7 +8,7 @@ use mathlib.Core.List.{List}
 use lib.ListN.{length, getD}
 use borrow.Author.Needs.{needs}
 use borrow.Author.Tests.{lt-ltb, le-ltb}
-use Rattle.runs.specs.declared.carry.Gathered.the-variants.{Number, TooLong, NoBit}
+use Rattle.runs.specs.declared.types.Gathered.the-variants.{Number, TooLong, NoBit}
 use Rattle.runs.specs.Gather.{gatheredOf}
 use Rattle.runs.specs.Loops.{Gathering}
 use Rattle.runs.proofs.Turns.{gather-begins, gather-turns, gather-room, gather-ends, some-element-above}

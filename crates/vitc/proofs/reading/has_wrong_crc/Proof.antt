@@ -40,7 +40,7 @@ parity-requires : tie.Need-parity-requires Inv-loop μ-loop
 parity-requires c κs = (omega arith, (omega arith, c .before .before .before .pre .clean))
 
 returns : tie.Need-returns Inv-loop μ-loop
-returns c = search wrong
+returns c = let low : c .before .before .before .loop .remainder < 8 = omega arith in search wrong
 
 add-remainder : tie.Need-add-remainder Inv-loop μ-loop
 add-remainder c = omega arith
@@ -49,7 +49,7 @@ loop-less : tie.Need-loop-less Inv-loop μ-loop
 loop-less c = omega arith
 
 loop-again : tie.Need-loop-again Inv-loop μ-loop
-loop-again c = search turned
+loop-again c = let low : c .before .before .before .loop .remainder < 8 = omega arith in search turned
 
 returns-2 : tie.Need-returns-2 Inv-loop μ-loop
 returns-2 c = search done

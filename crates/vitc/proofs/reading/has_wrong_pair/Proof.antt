@@ -51,7 +51,7 @@ shared-slice-read-second : tie.Need-shared-slice-read-second Inv-loop μ-loop
 shared-slice-read-second c = omega arith
 
 returns : tie.Need-returns Inv-loop μ-loop
-returns c = search wrong
+returns c = let low : c .before .before .before .before .loop .g < 9 = omega arith in search wrong
 
 add-g : tie.Need-add-g Inv-loop μ-loop
 add-g c = omega arith
@@ -60,7 +60,7 @@ loop-less : tie.Need-loop-less Inv-loop μ-loop
 loop-less c = omega arith
 
 loop-again : tie.Need-loop-again Inv-loop μ-loop
-loop-again c = search turned
+loop-again c = let low : c .before .before .before .before .loop .g < 9 = omega arith in search turned
 
 returns-2 : tie.Need-returns-2 Inv-loop μ-loop
 returns-2 c = search done

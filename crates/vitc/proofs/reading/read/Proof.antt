@@ -1,12 +1,16 @@
 -- `vitc::reading::read` meets its contract: each test is a row of the list, and what is left is the record's own list.
 -- Assumes nothing.
+use native.Mathlib.Omega.{arith}
 use borrow.Author.Needs.{needs}
 use Rattle.vitc.proofs.ReadTests.{bad-length, no-mode, too-high, bit-run, bad-pair, bad-check, by-record}
 use Rattle.vitc.proofs.reading.read.Statement.{statement}
 use Rattle.vitc.proofs.reading.read.Tie as tie
 
 returns : tie.Need-returns
-returns c = search bad-length
+returns c = bad-length _ _ (λ e. omega arith)
+
+is-unknown-requires : tie.Need-is-unknown-requires
+is-unknown-requires c κs = search needs
 
 returns-2 : tie.Need-returns-2
 returns-2 c = search no-mode
@@ -43,6 +47,7 @@ read-spec =
     tie.close
     (tie.spec
     returns
+    is-unknown-requires
     returns-2
     has-high-element-requires
     returns-3

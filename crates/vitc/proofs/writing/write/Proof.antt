@@ -1,38 +1,13 @@
--- `vitc::writing::write` meets its contract: a record that cannot be packed is refused by its own list, and the rest is the room's.
+-- `vitc::writing::write` meets its contract: a refused write leaves the run as it was, and a write that is done has the line in its middle.
 -- Assumes nothing.
-use mathlib.Core.Path.{_≡_, sym, _∙_}
-use Prim.Native.Nat.{ℕ}
-use mathlib.Core.List.{List}
+use Prim.Native.Nat.{_+_, _≤_, _<_}
+use native.Mathlib.Omega.{arith}
+use lib.Dec.{lit≤}
+use lib.ListN.{length}
 use borrow.Author.Needs.{needs}
-use Rattle.record.specs.declared.types.Record.{Record}
-use Rattle.record.specs.declared.types.Packed.{Packed}
-use Rattle.record.specs.declared.types.Packed.the-variants.{Bits, Refused as Unpackable}
-use Rattle.record.specs.Calls.{packedOf}
-use Rattle.record.proofs.Told.{refused-as, goes-on, packed-is}
-use Rattle.vitc.specs.declared.writing.Written.{Written}
-use Rattle.vitc.specs.declared.writing.Written.the-variants.{Refused}
-use Rattle.vitc.specs.Line.{lineOf}
-use Rattle.vitc.specs.Calls.{writtenOf, runOf, doneOf, runWith}
+use Rattle.vitc.proofs.WriteTests.{too-few, enough, not-packed, not-packed-left, without-room, without-room-left, done, done-left}
 use Rattle.vitc.proofs.writing.write.Statement.{statement}
 use Rattle.vitc.proofs.writing.write.Tie as tie
-
-module _ (mode start : ℕ) (r : Record) (run : List ℕ) (packed : Packed) (asked : packed ≡ packedOf mode r) where
-  not-packed : (n : ℕ) → packed ≡ Unpackable n → Refused n ≡ writtenOf mode r start run
-  unfolding writtenOf
-  not-packed n e = refused-as mode r Refused _ n (sym asked ∙ e)
-
-  left-alone : (n : ℕ) → packed ≡ Unpackable n → run ≡ runOf mode r start run
-  left-alone n e = refused-as mode r (λ (m : ℕ). run) _ n (sym asked ∙ e)
-
-  module _ (info : ℕ) (bits : packed ≡ Bits info) where
-    by-room : (a : Written) → a ≡ doneOf start run → a ≡ writtenOf mode r start run
-    unfolding writtenOf
-    by-room a e = e ∙ goes-on mode r Refused _ info (sym asked ∙ bits)
-
-    stored : (out : List ℕ) → out ≡ runWith info start run → out ≡ runOf mode r start run
-    unfolding lineOf
-    stored out e =
-        (rw (← packed-is mode r info (sym asked ∙ bits) .1) at e) ∙ goes-on mode r (λ (m : ℕ). run) _ info (sym asked ∙ bits)
 
 to-bits-requires : tie.Need-to-bits-requires
 to-bits-requires c κs = search needs
@@ -43,17 +18,47 @@ enum-known-packed c = search needs
 enum-known-packed-2 : tie.Need-enum-known-packed-2
 enum-known-packed-2 c = search needs
 
-place-requires : tie.Need-place-requires
-place-requires c κs = search needs
+lacks-room-requires : tie.Need-lacks-room-requires
+lacks-room-requires c κs = search needs
 
 returns : tie.Need-returns
-returns c = (search not-packed, search left-alone)
+returns c =
+    let a = c .before .before .before .before .before .before .before .args in
+    let few : length (a .run .now) < a .start + 90 = search (too-few, lit≤) in
+    (search without-room, search without-room-left)
+
+add-end : tie.Need-add-end
+add-end c =
+    let a = c .before .before .before .before .before .before .before .args in
+    let room : a .start + 90 ≤ length (a .run .now) = search (enough, lit≤) in
+    omega arith
+
+sub-write-line : tie.Need-sub-write-line
+sub-write-line c = search needs
+
+part-write-line-start : tie.Need-part-write-line-start
+part-write-line-start c = search needs
+
+part-write-line-end : tie.Need-part-write-line-end
+part-write-line-end c =
+    let a = c .before .before .before .before .before .before .before .args in
+    let room : a .start + 90 ≤ length (a .run .now) = search (enough, lit≤) in
+    omega arith
+
+write-line-requires : tie.Need-write-line-requires
+write-line-requires c κs = search needs
+
+returns-2 : tie.Need-returns-2
+returns-2 c = (search not-packed, search not-packed-left)
 
 same-length : tie.Need-same-length
 same-length c = search needs
 
-returns-2 : tie.Need-returns-2
-returns-2 c = (search by-room, search stored)
+returns-3 : tie.Need-returns-3
+returns-3 c =
+    let a = c .before .before .before .before .before .before .before .before .before .before .before .args in
+    let room : a .start + 90 ≤ length (a .run .now) = search (enough, lit≤) in
+    (search done, search done-left)
 
 pub write-spec : {M : Type 1} → statement M
 write-spec =
@@ -62,7 +67,13 @@ write-spec =
     to-bits-requires
     enum-known-packed
     enum-known-packed-2
-    place-requires
+    lacks-room-requires
     returns
+    add-end
+    sub-write-line
+    part-write-line-start
+    part-write-line-end
+    write-line-requires
+    returns-2
     same-length
-    returns-2)
+    returns-3)

@@ -1,0 +1,45 @@
+-- `modes::counting::distance` meets its contract: 2, and else what the clock answers at the mode's rate.
+-- Assumes nothing.
+use mathlib.Core.Path.{_≡_}
+use mathlib.Core.Bool.{Bool, true, false}
+use Prim.Native.Nat.{ℕ}
+use borrow.Author.Needs.{needs}
+use Rattle.clock.specs.declared.types.Rate.{Rate}
+use Rattle.clock.specs.declared.types.Flag.{Flag}
+use Rattle.clock.specs.declared.types.Address.{Address}
+use Rattle.clock.specs.declared.types.Span.{Span}
+use Rattle.clock.specs.declared.types.Span.the-variants.{Refused as Unmeasured}
+use Rattle.clock.specs.Calls.{spanOf}
+use Rattle.modes.specs.Modes.{unknown, rateAt}
+use Rattle.modes.specs.Calls.{spanIn}
+use Rattle.modes.proofs.InMode.{turned-away, at-its-rate}
+use Rattle.modes.proofs.counting.distance.Statement.{statement}
+use Rattle.modes.proofs.counting.distance.Tie as tie
+
+module _ (mode : ℕ) (drop : Flag) (from to : Address) (past : Bool) (asked : past ≡ unknown mode) where
+  no-mode : past ≡ true → Unmeasured 2 ≡ spanIn mode drop from to
+  unfolding spanIn
+  no-mode e = turned-away Unmeasured mode (λ rate. spanOf rate drop from to) past asked e
+
+  known : past ≡ false → (rate : Rate) (given : Span) → rate ≡ rateAt mode → given ≡ spanOf rate drop from to → given ≡ spanIn mode drop from to
+  unfolding spanIn
+  known e rate given at told = at-its-rate Unmeasured mode (λ rate. spanOf rate drop from to) past asked e rate given at told
+
+is-unknown-requires : tie.Need-is-unknown-requires
+is-unknown-requires c κs = search needs
+
+returns : tie.Need-returns
+returns c = search no-mode
+
+rate-at-requires : tie.Need-rate-at-requires
+rate-at-requires c κs = search needs
+
+distance-requires : tie.Need-distance-requires
+distance-requires c κs = search needs
+
+returns-2 : tie.Need-returns-2
+returns-2 c = search known
+
+pub distance-spec : {M : Type 1} → statement M
+distance-spec =
+    tie.close (tie.spec is-unknown-requires returns rate-at-requires distance-requires returns-2)

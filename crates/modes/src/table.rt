@@ -1,0 +1,26 @@
+// The table of modes.
+ghost use mathlib.Core.Path.{_≡_};
+ghost use Rattle.modes.specs.Modes.{rateAt, unknown};
+use clock::Rate;
+
+// How many modes there are: the first number that is unknown.
+const MODES: u8 = 3;
+
+pub fn is_unknown(mode: u8) -> bool
+    ensures { λ r. ⌜ r ≡ unknown mode ⌝ }
+{
+    MODES <= mode
+}
+
+// The rate of a mode. An unknown mode has none: what is given for it here no call gives out, since 2 is given first.
+pub fn rate_at(mode: u8) -> Rate
+    ensures { λ r. ⌜ r ≡ rateAt mode ⌝ }
+{
+    if mode == 0 {
+        return Rate::At24;
+    }
+    if mode == 1 {
+        return Rate::At25;
+    }
+    Rate::At30
+}

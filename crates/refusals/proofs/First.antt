@@ -1,0 +1,81 @@
+-- "The lowest that applies is given, except that 13 comes straight after 2": of a list that follows an order, the first number of the order that
+-- applies is given.
+-- Assumes nothing.
+use Prim.Native.Nat.{ℕ}
+use mathlib.Core.Path.{_≡_, refl, _∙_, sym}
+use mathlib.Core.Bool.{Bool, true, false, _||_, cond, true≢false}
+use mathlib.Core.List.{List, [], _∷_}
+use lib.Dec.{eqb}
+use borrow.Author.Tests.{eqb-true, eqb-false, eq-eqb, ne-eqb}
+use Rattle.refusals.specs.Table.{theOrder}
+use Rattle.refusals.specs.Answer.{Refusal, answer, testOf, firstOf, inOrder}
+use Rattle.refusals.proofs.Answered.{neither}
+
+-- a number stands in a list
+abbrev pub among : ℕ → List ℕ → Bool
+among n [] = false
+among n (m ∷ order) = eqb m n || among n order
+
+-- no number stands twice
+abbrev pub Once : List ℕ → Type 0
+Once [] = Unit {0}
+Once (n ∷ order) = (among n order ≡ false) × Once order
+
+-- a number that the order does not have applies in no list that follows it
+absent : (n : ℕ) (order : List ℕ) (rows : List Refusal) → among n order ≡ false → inOrder order rows ≡ true → testOf n rows ≡ false
+absent n order [] other follows = refl
+absent n [] (row ∷ rows) other follows = absurd (true≢false (sym follows))
+absent n (m ∷ order) (row ∷ rows) other follows =
+    let apart = neither (eqb m n) (among n order) other in
+    go (eqb m (row .number)) refl follows (apart .0) (absent n order rows (apart .1)) (absent n order (row ∷ rows) (apart .1))
+  where
+    go : (t : Bool) → eqb m (row .number) ≡ t → cond t (inOrder order rows) (inOrder order (row ∷ rows)) ≡ true → eqb m n ≡ false
+        → (inOrder order rows ≡ true → testOf n rows ≡ false) → (inOrder order (row ∷ rows) ≡ true → testOf n (row ∷ rows) ≡ false)
+        → testOf n (row ∷ rows) ≡ false
+    go true same rest apart later all =
+        let here : eqb (row .number) n ≡ false = rw (← eqb-true m (row .number) same) apart in
+        rw here (later rest)
+    go false different rest apart later all = all rest
+
+module _ {A : Type 0} (refused : ℕ → A) (accepted : A) where
+  none-left : (order : List ℕ) → firstOf order refused [] accepted ≡ accepted
+  none-left [] = refl
+  none-left (n ∷ order) = none-left order
+
+  -- a row whose number the order does not have is passed over
+  passed-over :
+      (order : List ℕ) (row : Refusal) (rows : List Refusal) → among (row .number) order ≡ false
+      → firstOf order refused (row ∷ rows) accepted ≡ firstOf order refused rows accepted
+  passed-over [] row rows other = refl
+  passed-over (n ∷ order) row rows other =
+      let apart = neither (eqb n (row .number)) (among (row .number) order) other in
+      let here : eqb (row .number) n ≡ false = ne-eqb (row .number) n (λ same. eqb-false n (row .number) (apart .0) (sym same)) in
+      rw (here, passed-over order row rows (apart .1))
+
+  -- "The lowest that applies is given": the first of the order that applies, and what is accepted where none does
+  pub first-is-given :
+      (order : List ℕ) → Once order → (rows : List Refusal) → inOrder order rows ≡ true
+      → answer refused rows accepted ≡ firstOf order refused rows accepted
+  first-is-given order once [] follows = sym (none-left order)
+  first-is-given [] once (row ∷ rows) follows = absurd (true≢false (sym follows))
+  first-is-given (n ∷ order) once (row ∷ rows) follows =
+      go (eqb n (row .number)) refl follows (first-is-given order (once .1) rows) (first-is-given order (once .1) (row ∷ rows))
+    where
+      own : n ≡ row .number → answer refused rows accepted ≡ firstOf order refused rows accepted → (t : Bool) → row .applies ≡ t
+          → answer refused (row ∷ rows) accepted ≡ cond (row .applies) (refused (row .number)) (firstOf order refused (row ∷ rows) accepted)
+      own same later true e = rw e
+      own same later false e = rw (passed-over order row rows (rw (← same) (once .0)), e) later
+
+      go : (t : Bool) → eqb n (row .number) ≡ t → cond t (inOrder order rows) (inOrder order (row ∷ rows)) ≡ true
+          → (inOrder order rows ≡ true → answer refused rows accepted ≡ firstOf order refused rows accepted)
+          → (inOrder order (row ∷ rows) ≡ true → answer refused (row ∷ rows) accepted ≡ firstOf order refused (row ∷ rows) accepted)
+          → answer refused (row ∷ rows) accepted ≡ firstOf (n ∷ order) refused (row ∷ rows) accepted
+      go true same rest later all =
+          let number : n ≡ row .number = eqb-true n (row .number) same in
+          let here : eqb (row .number) n ≡ true = eq-eqb (row .number) n (sym number) in
+          rw (here, number) (own number (later rest) (row .applies) refl)
+      go false different rest later all = rw (absent n order (row ∷ rows) (once .0) rest) (all rest)
+
+  -- the same of document 01's order
+  pub first-of-the-order : (rows : List Refusal) → inOrder theOrder rows ≡ true → answer refused rows accepted ≡ firstOf theOrder refused rows accepted
+  first-of-the-order = first-is-given theOrder (refl, (refl, (refl, (refl, (refl, (refl, (refl, (refl, (refl, (refl, (refl, (refl, (refl, (refl, tt))))))))))))))
