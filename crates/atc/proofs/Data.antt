@@ -15,14 +15,14 @@ use Rattle.bits.specs.Bits.{value, toBits, onesIn, someAbove, AllBits}
 use Rattle.bits.proofs.Bit.{head-within, tail-within, within-cons}
 use Rattle.bits.proofs.Joined.{one-more-bit}
 use Rattle.bits.proofs.Count.{evened}
+use Rattle.bits.proofs.Inverse.{low-bits}
 use Rattle.atc.specs.Words.{withOpposite, dataWord, evenBit, wrongWord, lowSet, someWord, dataWords, gathered, nibbleIn, bitIn, infoIn, byteIn}
-use Rattle.atc.proofs.Parity.{nine-bits}
 
 -- b0 to b8 are b0 to b7 and b8
 nine-of : (word : ℕ) → toBits 9 word ≡ toBits 9 (word % 256 + 256 * (word / 256 % 2))
 nine-of word =
     let low : word % 512 ≡ word % 256 + 256 * (word / 256 % 2) = omega arith in
-    sym (nine-bits word) ∙ ap (toBits 9) low
+    sym (low-bits 9 word) ∙ ap (toBits 9) low
 
 -- the count of ones in b0 to b8 is even exactly where b8 is the one that makes it so
 even-exactly : (word : ℕ) → onesIn (toBits 9 word) % 2 ≡ onesIn (toBits 9 (word % 256 + 256 * (word / 256 % 2))) % 2

@@ -1,7 +1,5 @@
 -- Turns     the loops begin, go on and end
 pub mod Turns
--- Parity    the language's count of ones is that of the bit list, over b0 to b7 and b0 to b8
-pub mod Parity
 -- Pieces    the 23 words from their pieces
 pub mod Pieces
 -- Data      what is written into data words is read from them again, and those that are not refused are written so

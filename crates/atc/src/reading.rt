@@ -13,7 +13,6 @@ use crate::sweeps::has_wrong_word;
 use crate::types::Contents;
 use crate::types::Packet;
 use crate::words::is_unknown_type;
-use record::Record;
 use record::Unpacked;
 use refusals::Verdict;
 

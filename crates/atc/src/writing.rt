@@ -33,8 +33,9 @@ fn store_data(info: u64, carried: u16, run: &mut [u16])
     let mut bits = carried;
     let mut i = 0;
     while i < run.len() {
-        let nibble = (left % 16) as u16;
-        run[i] = data_word(nibble, bits % 2);
+        let nibble = (left % 16) as u8;
+        let bit = (bits % 2) as u8;
+        run[i] = data_word(nibble, bit);
         left = left / 16;
         bits = bits / 2;
         i += 1;

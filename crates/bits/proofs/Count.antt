@@ -6,14 +6,15 @@ use mathlib.Core.Bool.{cond}
 use mathlib.Core.Logic.{_↔_}
 use mathlib.Core.List.{List, [], _∷_, _++_}
 use native.Mathlib.Omega.{arith}
-use native.Mathlib.Nat.{zero-add, not-suc-le-zero, le-of-suc-le-suc}
+use native.Mathlib.Nat.{zero-add, not-suc-le-zero, le-of-suc-le-suc, mod-lt}
 use lib.Arith.{lt-one}
 use lib.Dec.{eqb}
 use lib.ListN.{length}
 use lib.Count.{ones as counted, ones-step}
+use lib.Pow.{pow-pos}
 use Rattle.bits.specs.Bits.{toBits, howMany, onesIn, zerosIn, AllBits}
 use Rattle.bits.proofs.Bit.{head-within, tail-within, bits-of-number, length-toBits}
-use Rattle.bits.proofs.Inverse.{half-below}
+use Rattle.bits.proofs.Inverse.{half-below, low-bits}
 
 -- a bit counts for itself among the ones, and for what it lacks of one among the zeros
 pub one-counts : (bit : ℕ) → bit ≤ 1 → cond (eqb bit 1) 1 0 ≡ bit
@@ -63,3 +64,7 @@ pub evened : (bits : List ℕ) (bit : ℕ) → bit ≤ 1 → onesIn (bits ++ (bi
 evened bits bit h =
     let all = ones-snoc bits bit h in
     (λ (even : onesIn (bits ++ (bit ∷ [])) % 2 ≡ 0). omega arith, λ (same : bit ≡ onesIn bits % 2). omega arith)
+
+-- the ones among the low bits of a number, whatever stands above them
+pub low-ones : (width n : ℕ) → counted (n % 2 ^ width) ≡ onesIn (toBits width n)
+low-ones width n = count-ones width (n % 2 ^ width) (mod-lt n (pow-pos width)) ∙ ap onesIn (low-bits width n)

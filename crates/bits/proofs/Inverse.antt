@@ -1,11 +1,13 @@
--- `value` and `toBits` are inverse, at every width.
+-- `value` and `toBits` are inverse, at every width; and the low bits of a number are its own.
 -- Assumes nothing.
 use Prim.Native.Nat.{ℕ, zero, suc, _+_, _*_, _/_, _%_, _^_, _<_}
 use mathlib.Core.Path.{_≡_, refl}
 use mathlib.Core.List.{List, [], _∷_}
 use native.Mathlib.Nat.{pow-suc}
+use native.Mathlib.Numerals.{add-one}
 use native.Mathlib.Omega.{arith}
 use lib.ListN.{length}
+use lib.Pow.{field, mod-mod-pow}
 use Rattle.bits.specs.Bits.{value, toBits, AllBits}
 use Rattle.bits.proofs.Bit.{head-within, tail-within}
 
@@ -35,3 +37,12 @@ value-below (bit ∷ bits) all =
     let small = head-within 1 bit bits all in
     let rest = value-below bits (tail-within 1 bit bits all) in
     omega (arith, pow-suc 2 (length bits))
+
+-- the low bits of a number, whatever stands above them
+pub low-bits : (width n : ℕ) → toBits width (n % 2 ^ width) ≡ toBits width n
+unfolding toBits
+low-bits zero n = refl
+low-bits (suc width) n =
+    let lowest : n % 2 ^ suc width % 2 ≡ n % 2 = rw (← add-one width) (mod-mod-pow n width 1) in
+    let others : n % 2 ^ suc width / 2 ≡ n / 2 % 2 ^ width = rw (← add-one width) (field n width 1) in
+    rw (lowest, others, low-bits width (n / 2))

@@ -3,7 +3,6 @@
 -- What it says of every call is in the promises of the calls, and docs/PROMISES.md says where; what it says of a write is here, of every carrier.
 -- Assumes nothing.
 use Prim.Native.Nat.{ℕ, _+_, _≤_}
-use mathlib.Core.Path.{_≡_}
 use mathlib.Core.List.{List}
 use mathlib.Core.Logic.{inl, inr, ⊎-elim}
 use lib.ListN.{length}

@@ -9,11 +9,9 @@ ghost use Rattle.lines.specs.Lines.{acceptedText, refusedText, lineOf, e
 use crate::digits::append_decimal;
 use crate::digits::hex_digit;
 use crate::laying::append;
-use clock::Address;
 use clock::Flag;
 use clock::SecondFrame;
 use reader::Heard;
-use record::Flags;
 use record::Groups;
 use record::Record;
 

@@ -2,12 +2,13 @@
 -- Assumes nothing.
 use Prim.Native.Nat.{ℕ, _+_, _-_, _%_, _^_, _<_}
 use mathlib.Core.Path.{_≡_, refl, sym, ap, _∙_}
-use mathlib.Core.Bool.{Bool, true, false}
+use mathlib.Core.Bool.{Bool, true, false, true≢false}
 use native.Mathlib.Omega.{arith}
 use lib.Count.{ones as counted, ones-le}
 use borrow.Author.Tests.{eqb-true, eqb-false, eq-eqb, ne-eqb}
 use Rattle.clock.specs.declared.types.Flag.{Flag}
 use Rattle.clock.specs.declared.types.Flag.the-variants.{No, Yes}
+use Rattle.clock.specs.Rates.{isYes}
 use Rattle.record.specs.declared.types.Record.{Record}
 use Rattle.record.specs.Flags.{places}
 use Rattle.record.specs.Record.{marked}
@@ -17,6 +18,11 @@ use Rattle.modes.specs.Modes.{rateAt}
 use Rattle.modes.specs.Calls.{informationIn}
 use Rattle.ltc.specs.Word.{wordWith, oddZeros, correctedOf}
 use Rattle.ltc.proofs.Zeros.{odd-by-count}
+
+-- a flag that is not yes is no
+pub is-no : (flag : Flag) → isYes flag ≡ false → flag ≡ No
+is-no No e = refl
+is-no Yes e = absurd (true≢false e)
 
 -- a record whose mark is no, said so anew, is itself
 pub marked-same : (r : Record) (mark : Flag) → r .flags .mark ≡ mark → marked mark r ≡ r

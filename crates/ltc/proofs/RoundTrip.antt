@@ -3,10 +3,9 @@
 -- Assumes nothing.
 use Prim.Native.Nat.{ℕ, _+_, _^_, _<_, _≤_}
 use mathlib.Core.Path.{_≡_, refl, sym, ap, subst, _∙_}
-use mathlib.Core.Bool.{true, false, true≢false}
+use mathlib.Core.Bool.{true, false}
 use mathlib.Core.List.{List}
 use mathlib.Core.Logic.{_↔_}
-use native.Mathlib.Omega.{arith}
 use lib.Dec.{eqb}
 use lib.ListN.{length, take, drop, length-append}
 use lib.Seq.{take-at, drop-at}
@@ -22,8 +21,7 @@ use Rattle.runs.specs.declared.types.Written.the-variants.{Done}
 use Rattle.runs.specs.Run.{same, placed}
 use Rattle.runs.proofs.Same.{same-itself, same-elements}
 use Rattle.runs.proofs.Written.{done-clear, clear-done, stored, stored-reads, has-room, room-for}
-use Rattle.clock.specs.declared.types.Flag.{Flag}
-use Rattle.clock.specs.declared.types.Flag.the-variants.{No, Yes}
+use Rattle.clock.specs.declared.types.Flag.the-variants.{No}
 use Rattle.clock.specs.Clock.{outside}
 use Rattle.clock.specs.Rates.{isYes, framesInSecond}
 use Rattle.record.specs.declared.types.Record.{Record}
@@ -40,7 +38,7 @@ use Rattle.ltc.specs.Word.{syncWord, wordWith, infoIn, oddZeros, correct
 use Rattle.ltc.specs.Calls.{readRefusals, readOf, heardOf, writtenRows, writtenOf, runOf}
 use Rattle.ltc.proofs.Heard.{withoutMark, heard-is, low-length, above-in-parts, word-is}
 use Rattle.ltc.proofs.Words.{word-length}
-use Rattle.ltc.proofs.Evened.{marked-same, polarity, only-polarity}
+use Rattle.ltc.proofs.Evened.{is-no, marked-same, polarity, only-polarity}
 
 sync-clean : someAbove 1 syncWord ≡ false
 unfolding someAbove syncWord
@@ -92,9 +90,9 @@ module _ (mode : ℕ) (r : Record) where
       ∙ ap withoutMark held
       ∙ ap Holds (marked-same r No (ok .1))
 
-heldIn : Record → Unpacked → Record
-heldIn r (Holds s) = s
-heldIn r (Unheld n) = r
+recordRead : Record → Unpacked → Record
+recordRead r (Holds s) = s
+recordRead r (Unheld n) = r
 
 -- what a word that is clear of refusals is made of
 module _ (mode : ℕ) (word : List ℕ) (clear : Clear (readRefusals mode word)) where
@@ -135,10 +133,10 @@ module _ (mode : ℕ) (word : List ℕ) (clear : Clear (readRefusals mode word))
 
 -- a word that was read is clear of refusals
 pub read-clear : (mode : ℕ) (r : Record) (word : List ℕ) → readOf mode word ≡ Holds r → Clear (readRefusals mode word) × (marked No (recordIn mode (infoIn word)) ≡ r)
-unfolding readOf heldIn
+unfolding readOf recordRead
 read-clear mode r word e =
     let taken = accepted-as Unheld (Holds (marked No (recordIn mode (infoIn word)))) (readRefusals mode word) (Holds r) no-record e in
-    (taken .0, ap (heldIn r) (taken .1))
+    (taken .0, ap (recordRead r) (taken .1))
 
 -- and what was read, written again, is the same elements
 pub written-of-read : (mode : ℕ) (r : Record) (word : List ℕ) → readOf mode word ≡ Holds r → Acceptable mode r × (wordOf mode r ≡ word)
@@ -159,12 +157,8 @@ module _ (mode : ℕ) (r : Record) (start : ℕ) (run : List ℕ) where
       let rows = writtenRows mode r start run in
       let clear = done-clear rows e in
       let room = has-room 80 start (length run) (clear-at no-room rows clear) in
-      let ok : Acceptable mode r = (clear-before mark-set rows clear, unset (r .flags .mark) (clear-at mark-set rows clear)) in
+      let ok : Acceptable mode r = (clear-before mark-set rows clear, is-no (r .flags .mark) (clear-at mark-set rows clear)) in
       rw (stored-reads rows start (wordOf mode r) run 80 (word-length mode r) clear room) (read-of-written mode r ok)
-    where
-      unset : (mark : Flag) → isYes mark ≡ false → mark ≡ No
-      unset No e = refl
-      unset Yes e = absurd (true≢false e)
 
   pub read-writes :
       (word : List ℕ) → readOf mode word ≡ Holds r → start + 80 ≤ length run

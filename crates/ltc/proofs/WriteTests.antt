@@ -1,19 +1,19 @@
 -- What each test of a write leads to: its answer, and the run as it leaves it.
 -- Assumes nothing.
-use mathlib.Core.Path.{_≡_, refl, sym, ap, _∙_}
-use mathlib.Core.Bool.{Bool, true, false, cond, true≢false}
-use mathlib.Core.List.{List, [], _∷_}
+use mathlib.Core.Path.{_≡_, sym, ap, _∙_}
+use mathlib.Core.Bool.{Bool, true, false, cond}
+use mathlib.Core.List.{List}
 use Prim.Native.Nat.{ℕ, _+_, _-_, _^_, _<_}
 use lib.ListN.{length}
 use borrow.Rule.Slice.PartMut.{putMid}
 use Rattle.refusals.specs.Table.{mark-set, no-room}
-use Rattle.refusals.specs.Answer.{Refusal, _when_, answer, Clear}
+use Rattle.refusals.specs.Answer.{Clear}
+use Rattle.refusals.proofs.ByNumber.{rowsBefore, clear-whole}
 use Rattle.runs.specs.declared.types.Written.{Written}
 use Rattle.runs.specs.declared.types.Written.the-variants.{Done, Refused as Unwritten}
-use Rattle.runs.specs.Run.{noRoom, placed}
-use Rattle.runs.proofs.Parts.{put-is-placed}
-use Rattle.clock.specs.declared.types.Flag.{Flag}
-use Rattle.clock.specs.declared.types.Flag.the-variants.{No, Yes}
+use Rattle.runs.specs.Run.{noRoom}
+use Rattle.runs.proofs.Written.{turned-away, written-there}
+use Rattle.clock.specs.declared.types.Flag.the-variants.{No}
 use Rattle.clock.specs.Rates.{isYes}
 use Rattle.record.specs.declared.types.Record.{Record}
 use Rattle.record.specs.declared.types.Packed.{Packed}
@@ -23,11 +23,11 @@ use Rattle.record.specs.Fits.{Writable}
 use Rattle.record.proofs.Accepted.{writable}
 use Rattle.modes.specs.Modes.{rateAt, withMode}
 use Rattle.modes.specs.Calls.{informationIn, writeRefusalsIn, packedIn}
-use Rattle.modes.proofs.Told.{refused-as, goes-on, packed-is}
+use Rattle.modes.proofs.Told.{refused-as, packed-is}
 use Rattle.ltc.specs.Word.{wordWith, oddZeros, correctedOf, wordOf}
 use Rattle.ltc.specs.Calls.{writtenRows, writtenOf, runOf}
 use Rattle.ltc.proofs.Words.{word-length}
-use Rattle.ltc.proofs.Evened.{set-adds, set-below}
+use Rattle.ltc.proofs.Evened.{is-no, set-adds, set-below}
 
 module _ (mode start : ℕ) (r : Record) (run : List ℕ) where
   abbrev pub Outcome : Written → List ℕ → Type 0
@@ -39,39 +39,20 @@ module _ (mode start : ℕ) (r : Record) (run : List ℕ) where
     by-the-record n e =
         (refused-as mode r Unwritten _ n (sym told ∙ e), refused-as mode r (λ (k : ℕ). run) _ n (sym told ∙ e))
 
-    pub made : (n : ℕ) → found ≡ Bits n → packedIn mode r ≡ Bits n
-    made n e = sym told ∙ e
-
     module _ (n : ℕ) (e : found ≡ Bits n) (yes : Bool) (asked : yes ≡ isYes (r .flags .mark)) where
-      -- what is left of the list once the record has been made
-      rest : List Refusal
-      rest = (mark-set when isYes (r .flags .mark)) ∷ (no-room when noRoom 80 start (length run)) ∷ []
-
-      written-is : answer Unwritten rest Done ≡ writtenOf mode r start run
-      unfolding writtenOf writtenRows rest
-      written-is = goes-on mode r Unwritten (answer Unwritten rest Done) n (made n e)
-
-      run-is : answer (λ (k : ℕ). run) rest (placed start (wordOf mode r) run) ≡ runOf mode r start run
-      unfolding runOf writtenRows rest
-      run-is = goes-on mode r (λ (k : ℕ). run) (answer (λ (k : ℕ). run) rest (placed start (wordOf mode r) run)) n (made n e)
+      packed : Clear (withMode mode (writeRefusalsIn mode r)) × (informationIn mode r ≡ n)
+      packed = packed-is mode r n (sym told ∙ e)
 
       pub with-a-mark : yes ≡ true → Outcome (Unwritten 11) run
-      unfolding rest
-      with-a-mark t = (rw (← asked, t) at written-is, rw (← asked, t) at run-is)
+      unfolding writtenOf runOf writtenRows
+      with-a-mark t = turned-away (writtenRows mode r start run) start (wordOf mode r) run mark-set (packed .0) (sym asked ∙ t)
 
       module _ (t : yes ≡ false) where
-        unset : r .flags .mark ≡ No
-        unset = go (r .flags .mark) (sym asked ∙ t)
-          where
-            go : (mark : Flag) → isYes mark ≡ false → mark ≡ No
-            go No e = refl
-            go Yes e = absurd (true≢false e)
-
-        packed : Clear (withMode mode (writeRefusalsIn mode r)) × (informationIn mode r ≡ n)
-        packed = packed-is mode r n (made n e)
-
         fits : Writable (r .address) (r .groups)
         fits = writable (rateAt mode) r (packed .0 .1)
+
+        unset : r .flags .mark ≡ No
+        unset = is-no (r .flags .mark) (sym asked ∙ t)
 
         -- the polarity bit has its place free
         pub free : n + 2 ^ places (rateAt mode) .mark < 2 ^ 64
@@ -79,17 +60,19 @@ module _ (mode start : ℕ) (r : Record) (run : List ℕ) where
 
         module _ (full : Bool) (measured : full ≡ noRoom 80 start (length run)) where
           pub without-room : full ≡ true → Outcome (Unwritten 12) run
-          unfolding rest
-          without-room none = (rw (← asked, t, ← measured, none) at written-is, rw (← asked, t, ← measured, none) at run-is)
+          unfolding writtenOf runOf writtenRows
+          without-room none =
+              let rows = writtenRows mode r start run in
+              let before = clear-whole mark-set (rowsBefore no-room rows) (packed .0) (sym asked ∙ t, tt) in
+              turned-away rows start (wordOf mode r) run no-room before (sym measured ∙ none)
 
           pub done :
               full ≡ false → (info : ℕ) (word : List ℕ) → info ≡ cond (oddZeros (wordWith n)) (n + 2 ^ places (rateAt mode) .mark) n
               → word ≡ wordWith info → Outcome Done (putMid start ((start + 80) - start) run word)
-          unfolding rest wordOf
+          unfolding writtenOf runOf writtenRows wordOf
           done some info word corrected kept =
+              let rows = writtenRows mode r start run in
+              let clear = clear-whole mark-set rows (packed .0) (sym asked ∙ t, (sym measured ∙ some, tt)) in
               let plain : n ≡ informationIn mode r = sym (packed .1) in
               let evened : info ≡ correctedOf mode r = corrected ∙ rw (plain, set-adds mode r fits unset) in
-              let whole : word ≡ wordOf mode r = kept ∙ ap wordWith evened in (
-                rw (← asked, t, ← measured, some) at written-is,
-                rw whole (put-is-placed start (wordOf mode r) run 80 (word-length mode r)) ∙ (rw (← asked, t, ← measured, some) at run-is),
-              )
+              written-there rows start (wordOf mode r) run clear 80 (word-length mode r) word (kept ∙ ap wordWith evened)

@@ -3,10 +3,8 @@ ghost use mathlib.Core.Path.{_≡_};
 ghost use Rattle.clock.specs.declared.types.Flag.the-variants.{No};
 ghost use Rattle.record.specs.Record.{marked};
 ghost use Rattle.ltc.specs.Word.{wordWith, oddZeros};
-use clock::Address;
 use clock::Flag;
 use record::Flags;
-use record::Groups;
 use record::Record;
 
 pub fn has_odd_zeros(info: u64) -> bool

@@ -8,8 +8,6 @@ ghost use Rattle.modes.specs.Modes.{rateAt};
 ghost use Rattle.ltc.specs.Word.{wordWith, oddZeros};
 ghost use Rattle.ltc.specs.Calls.{writtenOf, runOf};
 use crate::polarity::has_odd_zeros;
-use clock::Flag;
-use record::Flags;
 use record::Packed;
 use record::Record;
 use runs::Written;

@@ -9,7 +9,6 @@ use clock::DayFrame;
 use clock::Flag;
 use clock::Numbered;
 use clock::Placed;
-use clock::Rate;
 use clock::SecondFrame;
 use clock::Span;
 

@@ -6,7 +6,6 @@ ghost use Rattle.modes.specs.Modes.{rateAt};
 ghost use Rattle.modes.specs.Calls.{unpackedIn, packedIn};
 use crate::table::is_unknown;
 use crate::table::rate_at;
-use clock::Rate;
 use record::Packed;
 use record::Record;
 use record::Unpacked;

@@ -1,7 +1,7 @@
 -- Demand 3. A reader in any state that feeding can bring a fresh one to, fed accepted code words end to end, reports each as itself at its
 -- 80th bit, and says nothing else after the fifth bit of the first.
 -- Assumes nothing.
-use Prim.Native.Nat.{ℕ, _≤_, _+_, _-_, _<_}
+use Prim.Native.Nat.{ℕ, _+_, _-_, _<_}
 use mathlib.Core.Path.{_≡_, refl, sym, ap, ap₂, _∙_}
 use mathlib.Core.Bool.{Bool, true, false}
 use mathlib.Core.List.{List, [], _∷_, _++_, append-nil, append-assoc}
@@ -9,7 +9,7 @@ use native.Mathlib.Omega.{arith}
 use lib.Dec.{ltb}
 use lib.ListN.{length, take, drop, take-append-drop, length-drop}
 use lib.Seq.{drop-at, length-take-le}
-use borrow.Author.Tests.{le-ltb, ltb-true, ltb-false}
+use borrow.Author.Tests.{ltb-true, ltb-false}
 use Rattle.bits.specs.Bits.{someAbove, AllBits}
 use Rattle.bits.proofs.Bit.{within-append}
 use Rattle.bits.proofs.Neighbours.{Each}

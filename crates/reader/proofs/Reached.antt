@@ -1,4 +1,4 @@
--- In a mode up to 2, the check passes exactly for the states that feeding a fresh reader reaches.
+-- In a mode that is known, the check passes exactly for the states that feeding a fresh reader reaches.
 -- Assumes nothing.
 use Prim.Native.Nat.{ℕ, _+_, _^_, _<_, _≤_}
 use mathlib.Core.Path.{_≡_, refl, sym, ap, _∙_}
@@ -6,7 +6,6 @@ use mathlib.Core.Bool.{false}
 use mathlib.Core.List.{List, [], _∷_, _++_, append-nil, append-assoc}
 use mathlib.Core.Logic.{_↔_}
 use native.Mathlib.Omega.{arith}
-use lib.Dec.{ltb}
 use lib.ListN.{length, length-append}
 use borrow.Author.Tests.{le-ltb}
 use Rattle.bits.specs.Bits.{someAbove, AllBits, value}

@@ -5,7 +5,6 @@ use mathlib.Core.List.{_++_}
 use Rattle.bits.specs.Bits.{value, toBits, someAbove, howMany}
 use Rattle.runs.specs.Run.{same}
 use Rattle.record.specs.Record.{recordOf}
-use Rattle.modes.specs.Calls.{recordIn}
 use Rattle.ltc.specs.Word.{syncWord, oddZeros}
 use Rattle.ltc.specs.Calls.{readOf}
 use Rattle.reader.specs.Held.{readerWith, unreached}

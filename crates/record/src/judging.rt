@@ -4,8 +4,6 @@ ghost use Rattle.refusals.specs.Answer.{verdictOf};
 ghost use Rattle.record.specs.Calls.{recordRefusals};
 use crate::flags::is_unused_colour;
 use crate::types::Record;
-use clock::Address;
-use clock::Flag;
 use clock::Rate;
 use refusals::Verdict;
 

@@ -11,7 +11,6 @@ use crate::types::Groups;
 use crate::types::Record;
 use crate::types::Unpacked;
 use clock::Address;
-use clock::Flag;
 use clock::Rate;
 use clock::SecondFrame;
 use refusals::Verdict;

@@ -5,7 +5,8 @@ use mathlib.Core.Path.{_≡_, refl, _∙_, sym}
 use mathlib.Core.Bool.{Bool, true, false, cond, true≢false}
 use mathlib.Core.List.{List, [], _∷_}
 use lib.Dec.{eqb}
-use Rattle.refusals.specs.Answer.{Refusal, Clear, testOf}
+use borrow.Author.Tests.{eqb-true}
+use Rattle.refusals.specs.Answer.{Refusal, answer, Clear, testOf}
 
 -- the rows from a number on, and those before it
 abbrev pub rowsFrom : ℕ → List Refusal → List Refusal
@@ -55,3 +56,18 @@ clear-whole n (row ∷ rows) before from = go (eqb (row .number) n) before from 
         → (Clear (rowsBefore n rows) → Clear (rowsFrom n rows) → Clear rows) → Clear (row ∷ rows)
     go true b f rest = f
     go false b f rest = (b .0, rest (b .1) f)
+
+-- where the rows before a number are clear and the number applies, it is given
+pub given-at :
+    {A : Type 0} (refused : ℕ → A) (accepted : A) (n : ℕ) (rows : List Refusal) → Clear (rowsBefore n rows) → testOf n rows ≡ true
+    → answer refused rows accepted ≡ refused n
+given-at refused accepted n [] before applies = absurd (true≢false (sym applies))
+given-at refused accepted n (row ∷ rows) before applies =
+    go (eqb (row .number) n) refl before applies (given-at refused accepted n rows)
+  where
+    go :
+        (t : Bool) → eqb (row .number) n ≡ t → Clear (cond t [] (row ∷ rowsBefore n rows)) → cond t (row .applies) (testOf n rows) ≡ true
+        → (Clear (rowsBefore n rows) → testOf n rows ≡ true → answer refused rows accepted ≡ refused n)
+        → answer refused (row ∷ rows) accepted ≡ refused n
+    go true same b this rest = rw (this, eqb-true (row .number) n same)
+    go false other b later rest = rw (b .0) (rest (b .1) later)

@@ -1,10 +1,7 @@
 // What answers are made of. Each call answers where the next byte goes; what begins an answer is put at its start, and a field brings
 // the space before it.
 ghost use Prim.Native.Nat.{_<_};
-use clock::Address;
 use clock::Flag;
-use record::Flags;
-use record::Groups;
 use record::Record;
 
 // One byte; nothing where no place is left.

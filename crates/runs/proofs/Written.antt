@@ -1,19 +1,22 @@
 -- What a write answers and the run that it leaves come from one list of refusals: so it is done or refused, and where it is refused the run is as it was;
 -- where it is done there was room, and its word is read from there again.
 -- Assumes nothing.
-use Prim.Native.Nat.{ℕ, _+_, _≤_}
+use Prim.Native.Nat.{ℕ, _+_, _-_, _≤_}
 use mathlib.Core.Path.{_≡_, sym, ap, _∙_}
-use mathlib.Core.Bool.{Bool, false}
+use mathlib.Core.Bool.{Bool, true, false}
 use mathlib.Core.List.{List}
 use mathlib.Core.Logic.{_⊎_, inl, inr, ⊎-elim}
 use native.Mathlib.Omega.{arith}
 use lib.ListN.{length, take, drop}
+use borrow.Rule.Slice.PartMut.{putMid}
 use borrow.Author.Tests.{ltb-false, le-ltb}
-use Rattle.refusals.specs.Answer.{Refusal, answer, Clear}
+use Rattle.refusals.specs.Answer.{Refusal, answer, Clear, testOf}
 use Rattle.refusals.proofs.Answered.{otherwise-accepted, clear-or-refused, accepted-as, kept}
+use Rattle.refusals.proofs.ByNumber.{rowsBefore, given-at}
+use Rattle.runs.specs.declared.types.Written.{Written}
 use Rattle.runs.specs.declared.types.Written.the-variants.{Done, Refused}
 use Rattle.runs.specs.Run.{placed, noRoom, writtenBy, runAfter}
-use Rattle.runs.proofs.Parts.{read-back}
+use Rattle.runs.proofs.Parts.{put-is-placed, read-back}
 
 -- an answer and the run come from one list, whatever kind the answer is of: "A refused write leaves every element."
 pub unchanged :
@@ -44,6 +47,24 @@ module _ (rows : List Refusal) where
     -- a write that is done leaves its word in the middle of the run
     pub stored : Clear rows → runAfter rows start word run ≡ placed start word run
     stored = otherwise-accepted (λ (n : ℕ). run) (placed start word run) rows
+
+    -- how a write ends: what it answers, and the run as it leaves it
+    abbrev pub Outcome : Written → List ℕ → Type 0
+    Outcome answered left = (answered ≡ writtenBy rows) × (left ≡ runAfter rows start word run)
+
+    -- the rows before a number are clear and it applies: it is given, and the run is as it was
+    pub turned-away : (n : ℕ) → Clear (rowsBefore n rows) → testOf n rows ≡ true → Outcome (Refused n) run
+    turned-away n before applies = (
+      sym (given-at Refused Done n rows before applies),
+      sym (given-at (λ (k : ℕ). run) (placed start word run) n rows before applies),
+    )
+
+    -- no row applies: the part that was lent from the start on has come back as the word
+    pub written-there :
+        Clear rows → (size : ℕ) → length word ≡ size → (part : List ℕ) → part ≡ word
+        → Outcome Done (putMid start ((start + size) - start) run part)
+    written-there clear size long part whole =
+        (sym (clear-done clear), rw whole (put-is-placed start word run size long) ∙ sym (stored clear))
 
     module _ (size : ℕ) (long : length word ≡ size) where
       -- and that word is read from there again

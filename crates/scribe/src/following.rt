@@ -13,7 +13,6 @@ ghost use Rattle.scribe.specs.Characters.{bitsIn};
 use crate::sifting::sift;
 use crate::types::Block;
 use crate::types::Scribe;
-use crate::types::Sifted;
 use crate::types::Telling;
 use crate::types::Told;
 use reader::Heard;

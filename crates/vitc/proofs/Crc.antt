@@ -11,6 +11,7 @@ use lib.ListN.{length, getD, drop, drop-of-length-le}
 use lib.Seq.{drop-cons, drop-drop, ext-getD}
 use borrow.Author.Tests.{eq-eqb, eqb-true, not-false}
 use Rattle.bits.specs.Bits.{AllBits}
+use Rattle.bits.proofs.Count.{one-counts}
 use Rattle.vitc.specs.Line.{onesFrom, onesAt, oddAt, wrongCrc, crcOf}
 use Rattle.vitc.proofs.Lists.{getD-each, within-at, none-of, none-below}
 use Rattle.vitc.proofs.Stride.{ones-append, skip, stride}
@@ -27,8 +28,8 @@ module _ (front : List ℕ) (long : length front ≡ 82) where
       let from82 : onesFrom ((82 + i) % 8) 82 c ≡ getD c i 0 =
       skip ((82 + i) % 8) i c 82 (λ j l e. omega arith)
       ∙ rw (drop-cons c i 0 (omega arith))
-      (stride ((82 + i) % 8) (getD c i 0) (drop (suc i) c) (82 + i) (within-at 1 c i bits) refl
-      ∙ rw none (add-zero (getD c i 0))) in
+      (stride ((82 + i) % 8) (getD c i 0) (drop (suc i) c) (82 + i) refl
+      ∙ rw (none, one-counts (getD c i 0) (within-at 1 c i bits)) (add-zero (getD c i 0))) in
       rw (ones-append ((82 + i) % 8) front c 0, long, from82)
 
   -- a count that is even in the test's words

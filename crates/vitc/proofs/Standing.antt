@@ -12,12 +12,11 @@ use lib.Seq.{getD-append-add, ext-getD}
 use borrow.Author.Tests.{ltb-true, ltb-false}
 use Rattle.bits.specs.Bits.{toBits}
 use Rattle.bits.proofs.Bit.{length-toBits}
-use Rattle.bits.proofs.Inverse.{value-toBits}
+use Rattle.bits.proofs.Inverse.{value-toBits, low-bits}
 use Rattle.bits.proofs.Joined.{toBits-append}
 use Rattle.vitc.specs.Line.{placeOf, informationOf, infoIn, wrongAt, wrongPair, groups, payload, crcOf, lineWith}
 use Rattle.vitc.proofs.Lists.{length-each, getD-each, none-below}
 use Rattle.vitc.proofs.Shape.{length-groups}
-use Rattle.vitc.proofs.Turns.{low-bits}
 
 -- eight bits and the rest
 by-eight : (more n : ℕ) → toBits (8 + more) n ≡ toBits 8 n ++ toBits more (n / 256)

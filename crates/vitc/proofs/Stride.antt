@@ -1,6 +1,6 @@
 -- The ones of a remainder by 8: places of other remainders do not count, and every eighth does.
 -- Assumes nothing.
-use Prim.Native.Nat.{ℕ, zero, suc, _+_, _%_, _<_, _≤_}
+use Prim.Native.Nat.{ℕ, zero, suc, _+_, _%_, _<_}
 use mathlib.Core.Path.{_≡_, refl, sym}
 use mathlib.Core.Bool.{false}
 use mathlib.Core.List.{List, [], _∷_, _++_}
@@ -9,8 +9,7 @@ use native.Mathlib.Nat.{zero-add, add-zero}
 use lib.Dec.{eqb}
 use lib.ListN.{length, drop}
 use borrow.Author.Tests.{eq-eqb, ne-eqb}
-use Rattle.bits.proofs.Count.{one-counts}
-use Rattle.vitc.specs.Line.{onesFrom}
+use Rattle.vitc.specs.Line.{isOne, onesFrom}
 
 module _ (remainder : ℕ) where
   -- the counts of two runs side by side
@@ -34,9 +33,9 @@ module _ (remainder : ℕ) where
       (skip many xs (suc place) (λ i h e. others (suc i) (omega arith) (let same : suc place + i ≡ place + suc i = omega arith in rw same at e)))
 
   -- the element at a place of the remainder counts, and the next seven do not
-  pub stride : (x : ℕ) (xs : List ℕ) (place : ℕ) → x ≤ 1 → place % 8 ≡ remainder
-      → onesFrom remainder place (x ∷ xs) ≡ x + onesFrom remainder (place + 8) (drop 7 xs)
+  pub stride : (x : ℕ) (xs : List ℕ) (place : ℕ) → place % 8 ≡ remainder
+      → onesFrom remainder place (x ∷ xs) ≡ isOne x + onesFrom remainder (place + 8) (drop 7 xs)
   unfolding onesFrom
-  stride x xs place bit at =
+  stride x xs place at =
       let next : suc place + 7 ≡ place + 8 = omega arith in
-      rw (eq-eqb (place % 8) remainder at, one-counts x bit, skip 7 xs (suc place) (λ i h e. omega arith), next)
+      rw (eq-eqb (place % 8) remainder at, skip 7 xs (suc place) (λ i h e. omega arith), next)

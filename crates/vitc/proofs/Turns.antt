@@ -1,6 +1,6 @@
 -- The loops begin, go on and end.
 -- Assumes nothing.
-use Prim.Native.Nat.{ℕ, zero, suc, _+_, _-_, _*_, _/_, _%_, _^_, _≤_, _<_}
+use Prim.Native.Nat.{ℕ, suc, _+_, _-_, _*_, _/_, _%_, _≤_, _<_}
 use mathlib.Core.Path.{_≡_, refl, sym, ap, _∙_}
 use mathlib.Core.Bool.{Bool, false}
 use mathlib.Core.List.{List, [], _∷_, _++_, append-nil, append-assoc}
@@ -9,15 +9,14 @@ use native.Mathlib.Numerals.{add-one}
 use native.Mathlib.Omega.{arith}
 use lib.ListN.{length, getD, take, drop, length-drop, length-append, drop-of-length-le}
 use lib.Seq.{drop-cons, drop-length, drop-drop, take-all, take-at, length-take-le}
-use lib.Pow.{field, mod-mod-pow}
 use borrow.Rule.Slice.PartMut.{putMid}
-use Rattle.bits.specs.Bits.{toBits, someAbove, AllBits}
+use Rattle.bits.specs.Bits.{toBits, someAbove}
 use Rattle.bits.proofs.Bit.{within-cons, length-toBits}
+use Rattle.bits.proofs.Inverse.{low-bits}
 use Rattle.runs.specs.Run.{placed}
 use Rattle.runs.proofs.Parts.{put-is-placed}
-use Rattle.vitc.specs.Line.{someBelow, onesFrom, onesAt, groups}
+use Rattle.vitc.specs.Line.{someBelow, isOne, onesFrom, onesAt, groups}
 use Rattle.vitc.specs.Loops.{Cleaning, Testing, Striding, Grouping}
-use Rattle.vitc.proofs.Lists.{within-at}
 use Rattle.vitc.proofs.Stride.{skip, stride}
 
 module _ (run : List ℕ) where
@@ -53,16 +52,15 @@ module _ (remainder : ℕ) (run : List ℕ) where
             omega arith;
       }
 
-  pub stride-turns : (odd place : ℕ) → AllBits run → Striding remainder run odd place → place < length run
-      → Striding remainder run ((odd + getD run place 0) % 2) (place + 8)
-  stride-turns odd place all s h =
-      let bit = within-at 1 run place all in
+  pub stride-turns : (odd place : ℕ) → Striding remainder run odd place → place < length run
+      → Striding remainder run ((odd + isOne (getD run place 0)) % 2) (place + 8)
+  stride-turns odd place s h =
+      let one = isOne (getD run place 0) in
       let next = drop-cons run place 0 h in
-      let rest = onesFrom remainder (place + 8) (drop (place + 8) run) in
       let same : suc place + 7 ≡ place + 8 = omega arith in
-      let counted : onesFrom remainder place (drop place run) ≡ getD run place 0 + onesFrom remainder (place + 8) (drop (place + 8) run) =
-      rw (next) (stride remainder (getD run place 0) (drop (suc place) run) place bit (s .at)
-      ∙ ap (λ (l : List ℕ). getD run place 0 + onesFrom remainder (place + 8) l) (drop-drop 7 (suc place) run ∙ ap (λ (n : ℕ). drop n run) same)) in
+      let counted : onesFrom remainder place (drop place run) ≡ one + onesFrom remainder (place + 8) (drop (place + 8) run) =
+      rw (next) (stride remainder (getD run place 0) (drop (suc place) run) place (s .at)
+      ∙ ap (λ (l : List ℕ). one + onesFrom remainder (place + 8) l) (drop-drop 7 (suc place) run ∙ ap (λ (n : ℕ). drop n run) same)) in
       record { at = omega arith; small = omega arith; so-far = omega (arith, s .so-far) }
 
   pub stride-ends : (odd place : ℕ) → Striding remainder run odd place → length run ≤ place → odd ≡ onesAt remainder run % 2
@@ -70,15 +68,6 @@ module _ (remainder : ℕ) (run : List ℕ) where
   stride-ends odd place s h =
       let all : (odd + 0) % 2 ≡ onesAt remainder run % 2 = rw (drop-of-length-le run h) at (s .so-far) in
       omega (arith, s .small)
-
--- the low bits of a number, whatever stands above them
-pub low-bits : (width n : ℕ) → toBits width (n % 2 ^ width) ≡ toBits width n
-unfolding toBits
-low-bits zero n = refl
-low-bits (suc width) n =
-    let lowest : n % 2 ^ suc width % 2 ≡ n % 2 = rw (← add-one width) (mod-mod-pow n width 1) in
-    let others : n % 2 ^ suc width / 2 ≡ n / 2 % 2 ^ width = rw (← add-one width) (field n width 1) in
-    rw (lowest, others, low-bits width (n / 2))
 
 -- a group of ten as one number: the pair 1, 0 and eight bits
 pub group-bits : (left : ℕ) → toBits 10 (1 + 4 * (left % 256)) ≡ 1 ∷ 0 ∷ toBits 8 left

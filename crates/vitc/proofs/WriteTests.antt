@@ -2,24 +2,24 @@
 -- Assumes nothing.
 use mathlib.Core.Path.{_≡_, sym, ap, _∙_}
 use mathlib.Core.Bool.{Bool, true, false}
-use mathlib.Core.List.{List, [], _∷_}
+use mathlib.Core.List.{List}
 use Prim.Native.Nat.{ℕ, _+_, _-_, _≤_, _<_}
 use native.Mathlib.Omega.{arith}
 use lib.ListN.{length}
 use borrow.Rule.Slice.PartMut.{putMid}
 use borrow.Author.Tests.{lt-ltb, ltb-true}
 use Rattle.refusals.specs.Table.{no-room}
-use Rattle.refusals.specs.Answer.{Refusal, _when_, Clear}
+use Rattle.refusals.specs.Answer.{Refusal, Clear}
 use Rattle.refusals.proofs.ByNumber.{clear-whole}
 use Rattle.runs.specs.declared.types.Written.the-variants.{Done, Refused}
-use Rattle.runs.specs.Run.{noRoom, writtenBy, runAfter}
-use Rattle.runs.proofs.Parts.{put-is-placed}
-use Rattle.runs.proofs.Written.{clear-done, stored, has-room, room-for}
+use Rattle.runs.specs.Run.{noRoom}
+use Rattle.runs.proofs.Written.{Outcome, turned-away, written-there, clear-done, has-room, room-for}
 use Rattle.record.specs.declared.types.Record.{Record}
 use Rattle.record.specs.declared.types.Packed.{Packed}
 use Rattle.record.specs.declared.types.Packed.the-variants.{Bits, Refused as Unpackable}
-use Rattle.modes.specs.Calls.{informationIn, packedIn}
-use Rattle.modes.proofs.Told.{refused-as, goes-on, packed-is}
+use Rattle.modes.specs.Modes.{withMode}
+use Rattle.modes.specs.Calls.{informationIn, writeRefusalsIn, packedIn}
+use Rattle.modes.proofs.Told.{refused-as, packed-is}
 use Rattle.vitc.specs.Line.{lineWith, lineOf}
 use Rattle.vitc.specs.Calls.{writtenRows, writtenOf, runOf}
 use Rattle.vitc.proofs.Shape.{length-line}
@@ -34,6 +34,9 @@ module _ (size start elements wanted : ℕ) (lacks : Bool) (looked : lacks ≡ n
 
 -- each outcome is two facts: what the write answers, and the run as it is left
 module _ (mode start : ℕ) (r : Record) (run : List ℕ) (packed : Packed) (asked : packed ≡ packedIn mode r) where
+  abbrev rows : List Refusal
+  rows = writtenRows mode r start run
+
   pub not-packed : (n : ℕ) → packed ≡ Unpackable n → Refused n ≡ writtenOf mode r start run
   unfolding writtenOf
   not-packed n e = refused-as mode r Refused _ n (sym asked ∙ e)
@@ -42,38 +45,30 @@ module _ (mode start : ℕ) (r : Record) (run : List ℕ) (packed : Packed) (ask
   not-packed-left n e = refused-as mode r (λ (k : ℕ). run) _ n (sym asked ∙ e)
 
   module _ (info : ℕ) (bits : packed ≡ Bits info) where
-    made : packedIn mode r ≡ Bits info
-    made = sym asked ∙ bits
-
-    -- what is left of the list once the record has been packed
-    abbrev rest : List Refusal
-    rest = (no-room when noRoom 90 start (length run)) ∷ []
+    made : Clear (withMode mode (writeRefusalsIn mode r)) × (informationIn mode r ≡ info)
+    made = packed-is mode r info (sym asked ∙ bits)
 
     module _ (few : length run < start + 90) where
+      none : Outcome rows start (lineOf mode r) run (Refused 12) run
+      none = turned-away rows start (lineOf mode r) run no-room (made .0) (lt-ltb (length run) (start + 90) few)
+
       pub without-room : Refused 12 ≡ writtenOf mode r start run
       unfolding writtenOf
-      without-room =
-          let refused : Refused 12 ≡ writtenBy rest = rw (lt-ltb (length run) (start + 90) few) in
-          refused ∙ goes-on mode r Refused _ info made
+      without-room = none .0
 
       pub without-room-left : run ≡ runOf mode r start run
-      without-room-left =
-          let kept : run ≡ runAfter rest start (lineOf mode r) run = rw (lt-ltb (length run) (start + 90) few) in
-          kept ∙ goes-on mode r (λ (k : ℕ). run) _ info made
+      without-room-left = none .1
 
     module _ (room : start + 90 ≤ length run) where
-      clear : Clear (writtenRows mode r start run)
-      clear =
-          let fits = room-for 90 start (length run) room in
-          clear-whole no-room (writtenRows mode r start run) (packed-is mode r info made .0) (fits, tt)
+      clear : Clear rows
+      clear = clear-whole no-room rows (made .0) (room-for 90 start (length run) room, tt)
 
       pub done : Done ≡ writtenOf mode r start run
       unfolding writtenOf
-      done = sym (clear-done (writtenRows mode r start run) clear)
+      done = sym (clear-done rows clear)
 
       pub done-left : (line : List ℕ) → line ≡ lineWith info → putMid start ((start + 90) - start) run line ≡ runOf mode r start run
       unfolding lineOf
       done-left line is =
-          let whole : line ≡ lineOf mode r = is ∙ ap lineWith (sym (packed-is mode r info made .1)) in
-          rw whole (put-is-placed start (lineOf mode r) run 90 (length-line (informationIn mode r)))
-          ∙ sym (stored (writtenRows mode r start run) start (lineOf mode r) run clear)
+          let whole : line ≡ lineOf mode r = is ∙ ap lineWith (sym (made .1)) in
+          written-there rows start (lineOf mode r) run clear 90 (length-line (informationIn mode r)) line whole .1

@@ -35,7 +35,7 @@ fn crc(front: &[u8]) -> u64
     let mut i: usize = 8;
     while 0 < i {
         i -= 1;
-        let odd = parity((82 + i) % 8, front);
+        let odd = parity(82 + i, front);
         number = 2 * number + odd as u64;
     }
     number

@@ -1,20 +1,19 @@
 -- `atc::words::data_word` meets its contract: the count of ones of the byte is that of its bit list.
 -- Assumes nothing.
 use mathlib.Core.Path.{_≡_}
-use Prim.Native.Nat.{ℕ, _+_, _*_, _%_, _<_}
-use native.Mathlib.Omega.{arith}
+use Prim.Native.Nat.{ℕ, _+_, _*_, _%_}
 use lib.Count.{ones}
 use borrow.Author.Needs.{needs}
+use Rattle.bits.proofs.Count.{low-ones}
 use Rattle.atc.specs.Words.{withOpposite, dataWord}
-use Rattle.atc.proofs.Parity.{byte-ones}
 use Rattle.atc.proofs.words.data_word.Statement.{statement}
 use Rattle.atc.proofs.words.data_word.Tie as tie
 
 made :
-    (nibble bit result : ℕ) → nibble < 16 → bit < 2
-    → result ≡ withOpposite (8 * bit + 16 * nibble + 256 * (ones (8 * bit + 16 * nibble) % 2)) → result ≡ dataWord nibble bit
+    (nibble bit result : ℕ) → let byte = 8 * bit + 16 * nibble in
+    result ≡ withOpposite (byte + 256 * (ones (byte % 256) % 2)) → result ≡ dataWord nibble bit
 unfolding dataWord
-made nibble bit result n b e = rw (← byte-ones (8 * bit + 16 * nibble) (omega arith)) e
+made nibble bit result e = rw (← low-ones 8 (8 * bit + 16 * nibble)) e
 
 mul-byte : tie.Need-mul-byte
 mul-byte c = search needs

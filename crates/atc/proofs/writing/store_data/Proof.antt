@@ -35,6 +35,9 @@ loop-holds c = store-begins _ _ _ (c .before .args .run .now) refl
 cast-nibble : tie.Need-cast-nibble Inv-loop μ-loop
 cast-nibble c = search needs
 
+cast-bit : tie.Need-cast-bit Inv-loop μ-loop
+cast-bit c = search needs
+
 data-word-requires : tie.Need-data-word-requires Inv-loop μ-loop
 data-word-requires c κs = search needs
 
@@ -67,6 +70,7 @@ store-data-spec =
     μ-loop
     loop-holds
     cast-nibble
+    cast-bit
     data-word-requires
     mul-run
     slice-write-run

@@ -3,6 +3,7 @@
 use mathlib.Core.Path.{_≡_, ap, _∙_}
 use mathlib.Core.Bool.{Bool, true, false, not, _&&_}
 use Prim.Native.Nat.{ℕ, _≤_, _<_}
+use native.Mathlib.Nat.{le-of-lt}
 use native.Mathlib.Omega.{arith}
 use borrow.Author.Tests.{le-leb, lt-leb}
 use borrow.Author.Needs.{needs}
@@ -48,7 +49,7 @@ frames-in-day-requires : tie.Need-frames-in-day-requires
 frames-in-day-requires c κs = search needs
 
 returns-2 : tie.Need-returns-2
-returns-2 c = search past-the-day
+returns-2 c = search (past-the-day, le-of-lt)
 
 address-at-requires : tie.Need-address-at-requires
 address-at-requires c κs = search below

@@ -2,6 +2,7 @@
 -- Assumes nothing.
 use mathlib.Core.Path.{_≡_, _∙_}
 use Prim.Native.Nat.{ℕ, _+_, _/_, _≤_, _<_}
+use native.Mathlib.Nat.{le-of-lt}
 use lib.IntN.{ℤ, subℕ}
 use mir.Facts.{toZ-ofZ}
 use borrow.Author.Tests.{lt-ltb, le-ltb, le-leb, lt-leb}
@@ -45,7 +46,7 @@ difference-requires-2 : tie.Need-difference-requires-2
 difference-requires-2 c κs = search needs
 
 returns-2 : tie.Need-returns-2
-returns-2 c = search (a-day-less, toZ-ofZ)
+returns-2 c = search (a-day-less, toZ-ofZ, le-of-lt)
 
 difference-requires-3 : tie.Need-difference-requires-3
 difference-requires-3 c κs = search needs

@@ -1,9 +1,8 @@
 -- `ltc::writing::corrected` meets its contract: where the zeros would be odd, the value of the polarity bit's place is added.
 -- Assumes nothing.
-use Prim.Native.Nat.{ℕ, _+_, _^_, _<_}
+use Prim.Native.Nat.{ℕ, _+_, _^_}
 use mathlib.Core.Path.{_≡_}
 use mathlib.Core.Bool.{Bool, true, false, cond}
-use native.Mathlib.Omega.{arith}
 use borrow.Author.Needs.{needs}
 use Rattle.record.specs.Flags.{places}
 use Rattle.modes.specs.Modes.{rateAt}

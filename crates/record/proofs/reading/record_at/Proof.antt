@@ -7,7 +7,6 @@ use Rattle.clock.specs.declared.types.Rate.{Rate}
 use Rattle.clock.specs.declared.types.Address.{Address}
 use Rattle.record.specs.declared.types.Flags.{Flags}
 use Rattle.record.specs.declared.types.Groups.{Groups}
-use Rattle.record.specs.declared.types.Record.{Record}
 use Rattle.record.specs.Flags.{places}
 use Rattle.record.specs.Record.{addressIn, flagsIn, groupsIn, recordOf}
 use Rattle.record.proofs.reading.record_at.Statement.{statement}

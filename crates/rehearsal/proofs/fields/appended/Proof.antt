@@ -1,6 +1,5 @@
 -- `rehearsal::fields::appended` is safe: what it makes is at most `most`, which fits.
 -- Assumes nothing.
-use mathlib.Core.Path.{_≡_}
 use Prim.Native.Nat.{ℕ, _+_, _-_, _*_, _/_, _≤_}
 use native.Mathlib.Nat.{div-mul-le-self, mul-le-mul-left, mul-comm}
 use native.Mathlib.Omega.{arith}

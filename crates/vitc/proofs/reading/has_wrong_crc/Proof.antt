@@ -1,10 +1,12 @@
 -- `vitc::reading::has_wrong_crc` meets its contract. At each turn none of the counts before the remainder's is odd.
 -- Assumes nothing.
-use mathlib.Core.Path.{_≡_, sym}
+use mathlib.Core.Path.{_≡_, sym, ap, _∙_}
 use Prim.Native.Nat.{ℕ, _+_, _-_, _%_, _≤_, _<_}
 use mathlib.Core.Bool.{true, false}
+use native.Mathlib.Nat.{mod-eq-of-lt}
 use native.Mathlib.Omega.{arith}
 use mathlib.Core.List.{List}
+use borrow.Author.Needs.{needs}
 use borrow.Author.Tests.{eq-eqb, ne-eqb}
 use Rattle.vitc.specs.Line.{onesAt, oddAt, wrongCrc}
 use Rattle.vitc.specs.Loops.{Testing}
@@ -13,13 +15,17 @@ use Rattle.vitc.proofs.Turns.{test-begins, test-turns}
 use Rattle.vitc.proofs.reading.has_wrong_crc.Statement.{statement}
 use Rattle.vitc.proofs.reading.has_wrong_crc.Tie as tie
 
-module _ (line : List ℕ) (remainder odd : ℕ) (t : Testing 8 (oddAt line) remainder) (counted : odd ≡ onesAt remainder line % 2) where
-  wrong : remainder < 8 → (odd ≡ 0 → ⊥) → true ≡ wrongCrc line
-  unfolding wrongCrc
-  wrong h e = sym (some-of (oddAt line) 8 remainder h (rw (← counted, ne-eqb odd 0 e)))
+module _ (line : List ℕ) (remainder odd : ℕ) (t : Testing 8 (oddAt line) remainder) (low : remainder < 8)
+    (told : odd ≡ onesAt (remainder % 8) line % 2) where
+  counted : odd ≡ onesAt remainder line % 2
+  counted = told ∙ ap (λ (n : ℕ). onesAt n line % 2) (mod-eq-of-lt low)
 
-  turned : remainder < 8 → odd ≡ 0 → Testing 8 (oddAt line) (remainder + 1)
-  turned h e = test-turns 8 (oddAt line) remainder t h (rw (← counted, eq-eqb odd 0 e))
+  wrong : (odd ≡ 0 → ⊥) → true ≡ wrongCrc line
+  unfolding wrongCrc
+  wrong e = sym (some-of (oddAt line) 8 remainder low (rw (← counted, ne-eqb odd 0 e)))
+
+  turned : odd ≡ 0 → Testing 8 (oddAt line) (remainder + 1)
+  turned e = test-turns 8 (oddAt line) remainder t low (rw (← counted, eq-eqb odd 0 e))
 
 done : (line : List ℕ) (remainder : ℕ) → Testing 8 (oddAt line) remainder → 8 ≤ remainder → false ≡ wrongCrc line
 unfolding wrongCrc
@@ -37,7 +43,7 @@ loop-holds : tie.Need-loop-holds Inv-loop μ-loop
 loop-holds c = test-begins 8 _
 
 parity-requires : tie.Need-parity-requires Inv-loop μ-loop
-parity-requires c κs = (omega arith, (omega arith, c .before .before .before .pre .clean))
+parity-requires c κs = search needs
 
 returns : tie.Need-returns Inv-loop μ-loop
 returns c = let low : c .before .before .before .loop .remainder < 8 = omega arith in search wrong

@@ -55,7 +55,7 @@ add-parity : tie.Need-add-parity Inv-loop μ-loop
 add-parity c = omega arith
 
 parity-requires : tie.Need-parity-requires Inv-loop μ-loop
-parity-requires c κs = (omega arith, (omega arith, c .before .before .before .pre .clean))
+parity-requires c κs = search needs
 
 mul-number : tie.Need-mul-number Inv-loop μ-loop
 mul-number c = let low : c .before .before .loop .number < 2 ^ 63 = search room in omega arith
