@@ -6,13 +6,14 @@ use mathlib.Core.List.{List}
 use Prim.Native.Nat.{ℕ, _+_, _-_, _^_, _<_}
 use lib.ListN.{length}
 use borrow.Rule.Slice.PartMut.{putMid}
-use Rattle.refusals.specs.Table.{mark-set, no-room}
+use Rattle.refusals.specs.Table.{unknown-mode, mark-set, no-room}
 use Rattle.refusals.specs.Answer.{Clear}
 use Rattle.refusals.proofs.ByNumber.{rowsBefore, clear-whole}
 use Rattle.runs.specs.declared.types.Written.{Written}
 use Rattle.runs.specs.declared.types.Written.the-variants.{Done, Refused as Unwritten}
 use Rattle.runs.specs.Run.{noRoom}
 use Rattle.runs.proofs.Written.{turned-away, written-there}
+use Rattle.clock.specs.declared.types.Rate.{Rate}
 use Rattle.clock.specs.declared.types.Flag.the-variants.{No}
 use Rattle.clock.specs.Rates.{isYes}
 use Rattle.record.specs.declared.types.Record.{Record}
@@ -20,28 +21,42 @@ use Rattle.record.specs.declared.types.Packed.{Packed}
 use Rattle.record.specs.declared.types.Packed.the-variants.{Bits, Refused as Unpackable}
 use Rattle.record.specs.Flags.{places}
 use Rattle.record.specs.Fits.{Writable}
+use Rattle.record.specs.Calls.{packedOf}
 use Rattle.record.proofs.Accepted.{writable}
-use Rattle.modes.specs.Modes.{rateAt, withMode}
+use Rattle.modes.specs.declared.types.Rated.{Rated}
+use Rattle.modes.specs.declared.types.Rated.the-variants.{Known, Refused as Unrated}
+use Rattle.modes.specs.Modes.{unknown, rateAt, withMode, ratedOf}
 use Rattle.modes.specs.Calls.{informationIn, writeRefusalsIn, packedIn}
 use Rattle.modes.proofs.Told.{refused-as, packed-is}
+use Rattle.modes.proofs.ByRate.{packs-at-rate, rate-told, rate-refused}
 use Rattle.ltc.specs.Word.{wordWith, oddZeros, correctedOf, wordOf}
 use Rattle.ltc.specs.Calls.{writtenRows, writtenOf, runOf}
 use Rattle.ltc.proofs.Words.{word-length}
 use Rattle.ltc.proofs.Evened.{is-no, set-adds, set-below}
 
-module _ (mode start : ℕ) (r : Record) (run : List ℕ) where
+module _ (mode start : ℕ) (r : Record) (run : List ℕ) (rated : Rated) (named : rated ≡ ratedOf mode) where
   abbrev pub Outcome : Written → List ℕ → Type 0
   Outcome answered left = (answered ≡ writtenOf mode r start run) × (left ≡ runOf mode r start run)
 
-  module _ (found : Packed) (told : found ≡ packedIn mode r) where
+  pub no-mode : (n : ℕ) → rated ≡ Unrated n → Outcome (Unwritten 2) run
+  unfolding writtenOf runOf writtenRows
+  no-mode n e =
+      turned-away (writtenRows mode r start run) start (wordOf mode r) run unknown-mode tt (rate-refused mode rated named n e .0)
+
+  module _ (rate : Rate) (is : rated ≡ Known rate) (found : Packed) (packs : found ≡ packedOf rate r) where
+    own : (unknown mode ≡ false) × (rateAt mode ≡ rate)
+    own = rate-told mode rated named rate is
+
+    told : packedIn mode r ≡ found
+    told = packs-at-rate mode r (own .0) ∙ ap (λ (k : Rate). packedOf k r) (own .1) ∙ sym packs
+
     pub by-the-record : (n : ℕ) → found ≡ Unpackable n → Outcome (Unwritten n) run
     unfolding writtenOf runOf writtenRows
-    by-the-record n e =
-        (refused-as mode r Unwritten _ n (sym told ∙ e), refused-as mode r (λ (k : ℕ). run) _ n (sym told ∙ e))
+    by-the-record n e = (refused-as mode r Unwritten _ n (told ∙ e), refused-as mode r (λ (k : ℕ). run) _ n (told ∙ e))
 
     module _ (n : ℕ) (e : found ≡ Bits n) (yes : Bool) (asked : yes ≡ isYes (r .flags .mark)) where
       packed : Clear (withMode mode (writeRefusalsIn mode r)) × (informationIn mode r ≡ n)
-      packed = packed-is mode r n (sym told ∙ e)
+      packed = packed-is mode r n (told ∙ e)
 
       pub with-a-mark : yes ≡ true → Outcome (Unwritten 11) run
       unfolding writtenOf runOf writtenRows
@@ -55,8 +70,8 @@ module _ (mode start : ℕ) (r : Record) (run : List ℕ) where
         unset = is-no (r .flags .mark) (sym asked ∙ t)
 
         -- the polarity bit has its place free
-        pub free : n + 2 ^ places (rateAt mode) .mark < 2 ^ 64
-        free = rw (packed .1) at (set-below mode r fits unset)
+        pub free : n + 2 ^ places rate .mark < 2 ^ 64
+        free = rw (packed .1, own .1) at (set-below mode r fits unset)
 
         module _ (full : Bool) (measured : full ≡ noRoom 80 start (length run)) where
           pub without-room : full ≡ true → Outcome (Unwritten 12) run
@@ -67,12 +82,11 @@ module _ (mode start : ℕ) (r : Record) (run : List ℕ) where
               turned-away rows start (wordOf mode r) run no-room before (sym measured ∙ none)
 
           pub done :
-              full ≡ false → (info : ℕ) (word : List ℕ) → info ≡ cond (oddZeros (wordWith n)) (n + 2 ^ places (rateAt mode) .mark) n
+              full ≡ false → (info : ℕ) (word : List ℕ) → info ≡ cond (oddZeros (wordWith n)) (n + 2 ^ places rate .mark) n
               → word ≡ wordWith info → Outcome Done (putMid start ((start + 80) - start) run word)
           unfolding writtenOf runOf writtenRows wordOf
           done some info word corrected kept =
               let rows = writtenRows mode r start run in
               let clear = clear-whole mark-set rows (packed .0) (sym asked ∙ t, (sym measured ∙ some, tt)) in
-              let plain : n ≡ informationIn mode r = sym (packed .1) in
-              let evened : info ≡ correctedOf mode r = corrected ∙ rw (plain, set-adds mode r fits unset) in
+              let evened : info ≡ correctedOf mode r = corrected ∙ rw (← packed .1, ← own .1, set-adds mode r fits unset) in
               written-there rows start (wordOf mode r) run clear 80 (word-length mode r) word (kept ∙ ap wordWith evened)

@@ -4,10 +4,11 @@ ghost use mathlib.Core.Path.{_≡_};
 ghost use mathlib.Core.Bool.{cond};
 ghost use lib.ListN.{length};
 ghost use Rattle.record.specs.Flags.{places};
-ghost use Rattle.modes.specs.Modes.{rateAt};
 ghost use Rattle.ltc.specs.Word.{wordWith, oddZeros};
 ghost use Rattle.ltc.specs.Calls.{writtenOf, runOf};
 use crate::polarity::has_odd_zeros;
+use clock::Rate;
+use modes::Rated;
 use record::Packed;
 use record::Record;
 use runs::Written;
@@ -22,12 +23,12 @@ fn store(info: u64, word: &mut [u8])
 }
 
 // The information bits with the polarity bit set where the zeros would else be odd.
-fn corrected(mode: u8, plain: u64) -> u64
-    requires { ⌜ plain + 2 ^ places (rateAt mode) .mark < 2 ^ 64 ⌝ }
-    ensures { λ n. ⌜ n ≡ cond (oddZeros (wordWith plain)) (plain + 2 ^ places (rateAt mode) .mark) plain ⌝ }
+fn corrected(rate: Rate, plain: u64) -> u64
+    requires { ⌜ plain + 2 ^ places rate .mark < 2 ^ 64 ⌝ }
+    ensures { λ n. ⌜ n ≡ cond (oddZeros (wordWith plain)) (plain + 2 ^ places rate .mark) plain ⌝ }
 {
     if has_odd_zeros(plain) {
-        return plain + modes::mark_value(mode);
+        return plain + record::mark_value(rate);
     }
     plain
 }
@@ -37,7 +38,10 @@ pub fn write(mode: u8, r: Record, start: usize, run: &mut [u8]) -> Written
 {
     let flags = r.flags;
     let mark = flags.mark;
-    let found = modes::to_bits(mode, r);
+    let Rated::Known(rate) = modes::rate_of(mode) else {
+        return Written::Refused(refusals::UNKNOWN_MODE);
+    };
+    let found = record::to_bits(rate, r);
     match found {
         Packed::Refused(number) => Written::Refused(number),
         Packed::Bits(plain) => {
@@ -47,7 +51,7 @@ pub fn write(mode: u8, r: Record, start: usize, run: &mut [u8]) -> Written
             if runs::lacks_room(80, start, run.len()) {
                 return Written::Refused(refusals::NO_ROOM);
             }
-            let info = corrected(mode, plain);
+            let info = corrected(rate, plain);
             let end = start + 80;
             store(info, &mut run[start..end]);
             Written::Done

@@ -6,5 +6,5 @@ pub mod Clocked
 pub mod Told
 -- ByRate    what the record's laws say at a rate, said by mode
 pub mod ByRate
--- Rows      the lists of refusals follow the table's order
+-- Rows      each call by mode has one list of refusals, 2 first, and it follows the table's order
 pub mod Rows

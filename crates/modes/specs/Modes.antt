@@ -9,6 +9,8 @@ use Rattle.refusals.specs.Table.{unknown-mode}
 use Rattle.refusals.specs.Answer.{Refusal, _when_, answer}
 use Rattle.clock.specs.declared.types.Rate.{Rate}
 use Rattle.clock.specs.declared.types.Rate.the-variants.{At24, At25, At30}
+use Rattle.modes.specs.declared.types.Rated.{Rated}
+use Rattle.modes.specs.declared.types.Rated.the-variants.{Known, Refused}
 
 -- a row for each mode, from 0 on: its rate
 abbrev pub table : List Rate
@@ -34,3 +36,7 @@ withMode mode rows = (unknown-mode when unknown mode) ∷ rows
 -- a call by mode: 2, and else what the call answers at the mode's rate
 abbrev pub inMode : {A : Type 0} → (ℕ → A) → ℕ → (Rate → A) → A
 inMode refused mode call = answer refused (withMode mode []) (call (rateAt mode))
+
+-- the rate of a mode
+unfoldable pub ratedOf : ℕ → Rated
+ratedOf mode = inMode Refused mode Known

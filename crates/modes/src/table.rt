@@ -1,6 +1,7 @@
 // The table of modes.
 ghost use mathlib.Core.Path.{_≡_};
-ghost use Rattle.modes.specs.Modes.{rateAt, unknown};
+ghost use Rattle.modes.specs.Modes.{rateAt, unknown, ratedOf};
+use crate::types::Rated;
 use clock::Rate;
 
 // How many modes there are: the first number that is unknown.
@@ -12,7 +13,7 @@ pub fn is_unknown(mode: u8) -> bool
     MODES <= mode
 }
 
-// The rate of a mode. An unknown mode has none: what is given for it here no call gives out, since 2 is given first.
+// The rate in a mode's row. An unknown mode has none: what is said here for it no call gives out, since 2 is given first.
 pub fn rate_at(mode: u8) -> Rate
     ensures { λ r. ⌜ r ≡ rateAt mode ⌝ }
 {
@@ -23,4 +24,13 @@ pub fn rate_at(mode: u8) -> Rate
         return Rate::At25;
     }
     Rate::At30
+}
+
+pub fn rate_of(mode: u8) -> Rated
+    ensures { λ r. ⌜ r ≡ ratedOf mode ⌝ }
+{
+    if is_unknown(mode) {
+        return Rated::Refused(refusals::UNKNOWN_MODE);
+    }
+    Rated::Known(rate_at(mode))
 }

@@ -4,17 +4,17 @@ use Prim.Native.Nat.{ℕ, _+_, _^_}
 use mathlib.Core.Path.{_≡_}
 use mathlib.Core.Bool.{Bool, true, false, cond}
 use borrow.Author.Needs.{needs}
+use Rattle.clock.specs.declared.types.Rate.{Rate}
 use Rattle.record.specs.Flags.{places}
-use Rattle.modes.specs.Modes.{rateAt}
 use Rattle.ltc.specs.Word.{wordWith, oddZeros}
 use Rattle.ltc.proofs.writing.corrected.Statement.{statement}
 use Rattle.ltc.proofs.writing.corrected.Tie as tie
 
-module _ (mode plain : ℕ) (odd : Bool) (tested : odd ≡ oddZeros (wordWith plain)) where
-  set : (value : ℕ) → value ≡ 2 ^ places (rateAt mode) .mark → odd ≡ true → plain + value ≡ cond (oddZeros (wordWith plain)) (plain + 2 ^ places (rateAt mode) .mark) plain
+module _ (rate : Rate) (plain : ℕ) (odd : Bool) (tested : odd ≡ oddZeros (wordWith plain)) where
+  set : (value : ℕ) → value ≡ 2 ^ places rate .mark → odd ≡ true → plain + value ≡ cond (oddZeros (wordWith plain)) (plain + 2 ^ places rate .mark) plain
   set value is e = rw (← tested, e, ← is)
 
-  even : odd ≡ false → plain ≡ cond (oddZeros (wordWith plain)) (plain + 2 ^ places (rateAt mode) .mark) plain
+  even : odd ≡ false → plain ≡ cond (oddZeros (wordWith plain)) (plain + 2 ^ places rate .mark) plain
   even e = rw (← tested, e)
 
 has-odd-zeros-requires : tie.Need-has-odd-zeros-requires

@@ -1,13 +1,26 @@
 -- `ltc::writing::write` meets its contract: a refused write leaves the run as it was, and a write that is done has the word in its middle.
 -- Assumes nothing.
 use Prim.Native.Nat.{_+_, _≤_}
+use mathlib.Core.List.{[]}
 use native.Mathlib.Omega.{arith}
 use lib.ListN.{length}
 use borrow.Author.Needs.{needs}
 use Rattle.runs.proofs.Written.{room-told}
-use Rattle.ltc.proofs.WriteTests.{by-the-record, with-a-mark, free, without-room, done}
+use Rattle.ltc.proofs.WriteTests.{no-mode, by-the-record, with-a-mark, free, without-room, done}
 use Rattle.ltc.proofs.writing.write.Statement.{statement}
 use Rattle.ltc.proofs.writing.write.Tie as tie
+
+rate-of-requires : tie.Need-rate-of-requires
+rate-of-requires c κs = search needs
+
+enum-known-rate : tie.Need-enum-known-rate
+enum-known-rate c = search needs
+
+enum-told : tie.Need-enum-told
+enum-told c = search needs
+
+returns : tie.Need-returns
+returns c = no-mode _ _ _ _ _ (c .before .before .rate-of .ensures) _ (c .enum-told .given .1)
 
 to-bits-requires : tie.Need-to-bits-requires
 to-bits-requires c κs = search needs
@@ -21,22 +34,23 @@ enum-known-found-2 c = search needs
 is-yes-requires : tie.Need-is-yes-requires
 is-yes-requires c κs = search needs
 
-returns : tie.Need-returns
-returns c =
-    with-a-mark _ _ _ _ _ (c .before .before .before .before .before .to-bits .ensures) _ (c .before .before .before .found2 .given .1) _ (c .before .is-yes .ensures) (search needs)
+returns-2 : tie.Need-returns-2
+returns-2 c =
+    with-a-mark _ _ _ _ _ (c .before .before .before .before .before .before .before .before .before .rate-of .ensures) _ (c .before .before .before .before .before .before .before .rate .given .1) _ (c .before .before .before .before .before .to-bits .ensures) _ (c .before .before .before .found2 .given .1) _ (c .before .is-yes .ensures) (search needs)
 
 lacks-room-requires : tie.Need-lacks-room-requires
 lacks-room-requires c κs = search needs
 
-returns-2 : tie.Need-returns-2
-returns-2 c =
-    without-room _ _ _ _ _ (c .before .before .before .before .before .before .before .to-bits .ensures) _ (c .before .before .before .before .before .found2 .given .1) _ (c .before .before .before .is-yes .ensures) (search needs) _ (c .before .lacks-room .ensures) (search needs)
+returns-3 : tie.Need-returns-3
+returns-3 c =
+    without-room _ _ _ _ _ (c .before .before .before .before .before .before .before .before .before .before .before .rate-of .ensures) _ (c .before .before .before .before .before .before .before .before .before .rate .given .1) _ (c .before .before .before .before .before .before .before .to-bits .ensures) _ (c .before .before .before .before .before .found2 .given .1) _ (c .before .before .before .is-yes .ensures) (search needs) _ (c .before .lacks-room .ensures) (search needs)
 
 corrected-requires : tie.Need-corrected-requires
-corrected-requires c κs = search free
+corrected-requires c κs =
+    free _ 0 _ [] _ (c .before .before .before .before .before .before .before .before .before .before .before .rate-of .ensures) _ (c .before .before .before .before .before .before .before .before .before .rate .given .1) _ (c .before .before .before .before .before .before .before .to-bits .ensures) _ (c .before .before .before .before .before .found2 .given .1) _ (c .before .before .before .is-yes .ensures) (search needs)
 
 -- once the room has been tested, the word ends within the run
-room : (c : tie.After-corrected) → c .before .before .before .before .before .before .before .before .before .before .before .args .start + 80 ≤ length (c .before .before .before .before .before .before .before .before .before .before .before .args .run .now)
+room : (c : tie.After-corrected) → c .before .before .before .before .before .before .before .before .before .before .before .before .before .before .before .args .start + 80 ≤ length (c .before .before .before .before .before .before .before .before .before .before .before .before .before .before .before .args .run .now)
 room c = room-told _ _ _ _ (c .before .before .lacks-room .ensures) (search needs)
 
 add-end : tie.Need-add-end
@@ -54,34 +68,38 @@ part-store-end c = omega (arith, room c)
 store-requires : tie.Need-store-requires
 store-requires c κs = search needs
 
-returns-3 : tie.Need-returns-3
-returns-3 c = by-the-record _ _ _ _ _ (c .before .before .before .to-bits .ensures) _ (search needs)
+returns-4 : tie.Need-returns-4
+returns-4 c = by-the-record _ _ _ _ _ (c .before .before .before .before .before .before .before .rate-of .ensures) _ (c .before .before .before .before .before .rate .given .1) _ (c .before .before .before .to-bits .ensures) _ (search needs)
 
 same-length : tie.Need-same-length
 same-length c = search needs
 
-returns-4 : tie.Need-returns-4
-returns-4 c =
-    done _ _ _ _ _ (c .before .before .before .before .before .before .before .before .before .before .before .before .to-bits .ensures) _ (c .before .before .before .before .before .before .before .before .before .before .found2 .given .1) _ (c .before .before .before .before .before .before .before .before .is-yes .ensures) (search needs) _ (c .before .before .before .before .before .before .lacks-room .ensures) (search needs)
+returns-5 : tie.Need-returns-5
+returns-5 c =
+    done _ _ _ _ _ (c .before .before .before .before .before .before .before .before .before .before .before .before .before .before .before .before .rate-of .ensures) _ (c .before .before .before .before .before .before .before .before .before .before .before .before .before .before .rate .given .1) _ (c .before .before .before .before .before .before .before .before .before .before .before .before .to-bits .ensures) _ (c .before .before .before .before .before .before .before .before .before .before .found2 .given .1) _ (c .before .before .before .before .before .before .before .before .is-yes .ensures) (search needs) _ (c .before .before .before .before .before .before .lacks-room .ensures) (search needs)
     _ _ (c .before .before .before .before .corrected .ensures) (c .before .before .store .ensures)
 
 pub write-spec : {M : Type 1} → statement M
 write-spec =
     tie.close
     (tie.spec
+    rate-of-requires
+    enum-known-rate
+    enum-told
+    returns
     to-bits-requires
     enum-known-found
     enum-known-found-2
     is-yes-requires
-    returns
-    lacks-room-requires
     returns-2
+    lacks-room-requires
+    returns-3
     corrected-requires
     add-end
     sub-store
     part-store-start
     part-store-end
     store-requires
-    returns-3
+    returns-4
     same-length
-    returns-4)
+    returns-5)
