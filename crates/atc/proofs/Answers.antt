@@ -5,8 +5,8 @@ use mathlib.Core.Path.{_≡_, refl, sym, _∙_}
 use mathlib.Core.Bool.{true, false}
 use mathlib.Core.List.{List}
 use Rattle.refusals.specs.Table.{unknown-mode, theOrder}
-use Rattle.refusals.specs.Answer.{answer, Clear, inOrder}
-use Rattle.refusals.proofs.Answered.{carried, otherwise-accepted}
+use Rattle.refusals.specs.Answer.{answer, inOrder}
+use Rattle.refusals.proofs.Answered.{Clear, carried, otherwise-accepted}
 use Rattle.refusals.proofs.ByNumber.{clear-at}
 use Rattle.record.specs.declared.types.Record.{Record}
 use Rattle.record.specs.declared.types.Unpacked.{Unpacked}

@@ -8,7 +8,8 @@ use mathlib.Core.List.{List}
 use lib.ListN.{length, take, drop}
 use Rattle.refusals.specs.declared.types.Verdict.{Verdict}
 use Rattle.refusals.specs.declared.types.Verdict.the-variants.{Sound, Refused as Unsound}
-use Rattle.refusals.specs.Answer.{Clear, verdictOf}
+use Rattle.refusals.specs.Answer.{verdictOf}
+use Rattle.refusals.proofs.Answered.{Clear}
 use Rattle.refusals.proofs.Verdicts.{refused-by, sound-clear}
 use Rattle.record.specs.declared.types.Record.{Record}
 use Rattle.record.specs.declared.types.Unpacked.{Unpacked}

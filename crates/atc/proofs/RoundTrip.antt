@@ -11,8 +11,7 @@ use native.Mathlib.Omega.{arith}
 use lib.ListN.{length, take, drop, length-take}
 use borrow.Author.Tests.{ltb-false, le-ltb}
 use Rattle.refusals.specs.Table.{unknown-mode, unknown-type, outside-the-clock, no-room}
-use Rattle.refusals.specs.Answer.{Clear}
-use Rattle.refusals.proofs.Answered.{otherwise-accepted, accepted-as}
+use Rattle.refusals.proofs.Answered.{Clear, otherwise-accepted, accepted-as}
 use Rattle.refusals.proofs.ByNumber.{rowsFrom, clear-at, clear-from, clear-before, clear-whole}
 use Rattle.runs.specs.declared.types.Written.the-variants.{Done}
 use Rattle.runs.specs.Run.{placed, noRoom}

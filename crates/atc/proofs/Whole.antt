@@ -10,8 +10,8 @@ use lib.ListN.{length, length-map, take, drop, getD, length-append, length-drop,
 use lib.Seq.{take-at, drop-at, length-take-le, drop-drop, drop-cons, take-add, take-append-le, drop-append-le, getD-at}
 use borrow.Author.Tests.{eq-eqb, eqb-true, not-false}
 use Rattle.refusals.specs.Table.{wrong-length, element-too-high, wrong-sync, wrong-check, low-bits-set}
-use Rattle.refusals.specs.Answer.{Refusal, Clear}
-use Rattle.refusals.proofs.Answered.{neither}
+use Rattle.refusals.specs.Answer.{Refusal}
+use Rattle.refusals.proofs.Answered.{Clear, neither}
 use Rattle.refusals.proofs.ByNumber.{clear-at}
 use Rattle.bits.specs.Bits.{toBits, someAbove, AllBits}
 use Rattle.bits.proofs.Bit.{bits-of-number, length-toBits, within-append, within-cons, within-drop, within-take}

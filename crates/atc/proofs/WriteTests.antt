@@ -7,7 +7,8 @@ use mathlib.Core.List.{List}
 use lib.ListN.{length}
 use borrow.Rule.Slice.PartMut.{putMid}
 use Rattle.refusals.specs.Table.{unknown-mode, unknown-type, outside-the-clock, no-room}
-use Rattle.refusals.specs.Answer.{Refusal, answer, Clear}
+use Rattle.refusals.specs.Answer.{Refusal, answer}
+use Rattle.refusals.proofs.Answered.{Clear}
 use Rattle.refusals.proofs.ByNumber.{clear-from, clear-whole}
 use Rattle.runs.specs.declared.types.Written.{Written}
 use Rattle.runs.specs.declared.types.Written.the-variants.{Done, Refused as Unwritten}

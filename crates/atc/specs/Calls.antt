@@ -19,7 +19,7 @@ use Rattle.atc.specs.declared.types.Packet.the-variants.{Holds, Refused 
 use Rattle.atc.specs.Words.{wrongWord, lowSet, someWord, infoIn}
 use Rattle.atc.specs.Packet.{isHeaded, checksumOf, packetWith, dataIn, typeIn, secondIn, unknownType}
 
--- the form of a packet, whatever it carries: 1 not exactly 23 elements; 2 the mode; 3 an element above 1,023; 4 one of the first six
+-- the form of a packet, whatever it carries: 1 not exactly 23 elements; 2 a mode that is unknown; 3 an element above 1,023; 4 one of the first six
 -- words is wrong; 5 b8 or b9 of a data word, or the checksum word; 6 b0 to b2 of a data word not zero
 abbrev pub formRefusals : ℕ → List ℕ → List Refusal
 formRefusals mode words =
@@ -47,7 +47,7 @@ readOf mode words =
     answer Unread (readRefusals mode words)
     (Holds (contentsWith (recordIn mode (infoIn (dataIn words))) (typeIn words) (secondIn words)))
 
--- 2 the mode; 7 payload type above 2; the record's own; 12 fewer than 23 elements from the start, or start past the end
+-- 2 a mode that is unknown; 7 payload type above 2; the record's own; 12 fewer than 23 elements from the start, or start past the end
 abbrev pub writtenRows : ℕ → Record → ℕ → ℕ → List ℕ → List Refusal
 writtenRows mode r type start run =
     withMode mode

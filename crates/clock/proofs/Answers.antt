@@ -9,9 +9,9 @@ use native.Mathlib.Nat.{mod-eq-of-lt}
 use lib.Dec.{lit<}
 use borrow.Author.Tests.{leb-false, lt-leb}
 use Rattle.refusals.specs.Table.{outside-the-clock, skipped-address, unused-bit-set, number-past-the-day, theOrder}
-use Rattle.refusals.specs.Answer.{Clear, inOrder}
+use Rattle.refusals.specs.Answer.{inOrder}
 use Rattle.refusals.proofs.ByNumber.{clear-at}
-use Rattle.refusals.proofs.Answered.{neither, otherwise-accepted, accepted-as, carried}
+use Rattle.refusals.proofs.Answered.{Clear, neither, otherwise-accepted, accepted-as, carried}
 use Rattle.clock.specs.declared.types.Rate.{Rate}
 use Rattle.clock.specs.declared.types.Rate.the-variants.{At24, At25, At30}
 use Rattle.clock.specs.declared.types.Flag.{Flag}
@@ -50,9 +50,9 @@ numberIn (Unnumbered n) = n
 pub no-number : {n : DayFrame} (k : ℕ) → Unnumbered k ≡ Number n → ⊥
 no-number k e = let z : _≡_ {A = ℕ} 0 1 = cc in omega arith
 
-abbrev pub addressIn : Address → Placed → Address
-addressIn a (At b) = b
-addressIn a (Unplaced n) = a
+abbrev pub placedAddress : Address → Placed → Address
+placedAddress a (At b) = b
+placedAddress a (Unplaced n) = a
 
 pub no-address : {a : Address} (k : ℕ) → Unplaced k ≡ At a → ⊥
 no-address k e = let z : _≡_ {A = ℕ} 0 1 = cc in omega arith
@@ -104,7 +104,7 @@ module _ (rate : Rate) (drop : Flag) where
   unfolding addressOf
   placed a n e =
       let taken = accepted-as Unplaced _ (numberRefusals rate drop (n .0)) (At a) no-address e in
-      (taken .0, ap (addressIn a) (taken .1))
+      (taken .0, ap (placedAddress a) (taken .1))
 
   -- "Frame numbers of a day and addresses match one to one, drop-frame or not"
   pub one-to-one : (a : Address) (n : DayFrame) → numberOf rate drop a ≡ Number n ↔ addressOf rate drop n ≡ At a

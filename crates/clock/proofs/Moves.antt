@@ -8,8 +8,7 @@ use borrow.Author.Tests.{lt-leb}
 use lib.IntN.{ℤ, pos, negsuc, subℕ}
 use lib.Signed.{_≤ℤ_, _<ℤ_}
 use Rattle.refusals.specs.Table.{outside-the-clock, skipped-address, unused-bit-set}
-use Rattle.refusals.specs.Answer.{Clear}
-use Rattle.refusals.proofs.Answered.{neither, otherwise-accepted, accepted-as}
+use Rattle.refusals.proofs.Answered.{Clear, neither, otherwise-accepted, accepted-as}
 use Rattle.refusals.proofs.ByNumber.{clear-at, clear-from}
 use Rattle.clock.specs.declared.types.Rate.{Rate}
 use Rattle.clock.specs.declared.types.Flag.{Flag}
@@ -26,7 +25,7 @@ use Rattle.clock.specs.Calls.{refusalsOf, refusalsOfTwo, numberRefusals,
 use Rattle.clock.proofs.Shown.{address-of-number, stepped-is}
 use Rattle.clock.proofs.Round.{Brought, brought, arrives, in-range, sum-below, back-and-on}
 use Rattle.clock.proofs.Sizes.{even-day, some-day}
-use Rattle.clock.proofs.Answers.{Counts, clear-address, numbered, addressIn, no-address}
+use Rattle.clock.proofs.Answers.{Counts, clear-address, numbered, placedAddress, no-address}
 
 pub no-span : {z : ℤ} (k : ℕ) → Unmeasured k ≡ Frames z → ⊥
 no-span k e = let z : _≡_ {A = ℕ} 0 1 = cc in omega arith
@@ -105,7 +104,7 @@ module _ (rate : Rate) (drop : Flag) where
   unfolding plusOf
   moved a b z e =
       let taken = accepted-as Unplaced _ (refusalsOf rate drop a) (At b) no-address e in
-      (taken .0, ap (addressIn b) (taken .1))
+      (taken .0, ap (placedAddress b) (taken .1))
 
   -- a distance is measured wherever both addresses have numbers, and a sum is made wherever the address has one
   pub distance-is :

@@ -1,16 +1,16 @@
 -- A record is clear of its refusals exactly where it is acceptable: where its mode counts, the clock, stepped from midnight, shows its address, no
 -- unused bit is set and its groups are up to 15.
 -- Assumes nothing.
-use Prim.Native.Nat.{ℕ, zero, suc}
+use Prim.Native.Nat.{ℕ, zero, suc, _≤_}
 use mathlib.Core.Path.{_≡_, refl, _∙_}
 use mathlib.Core.Bool.{Bool, true, false, not, _&&_, _||_, true≢false}
 use mathlib.Core.List.{List}
 use mathlib.Core.Logic.{_↔_}
 use native.Mathlib.Omega.{arith}
-use borrow.Author.Tests.{leb-false}
+use borrow.Author.Tests.{leb-false, lt-leb}
 use Rattle.refusals.specs.Table.{unknown-mode, outside-the-clock, skipped-address, unused-bit-set}
-use Rattle.refusals.specs.Answer.{Refusal, Clear}
-use Rattle.refusals.proofs.Answered.{neither}
+use Rattle.refusals.specs.Answer.{Refusal}
+use Rattle.refusals.proofs.Answered.{Clear, neither}
 use Rattle.refusals.proofs.ByNumber.{clear-at}
 use Rattle.clock.specs.declared.types.Rate.{Rate}
 use Rattle.clock.specs.declared.types.Flag.{Flag}
@@ -27,6 +27,10 @@ use Rattle.modes.specs.Calls.{writeRefusalsIn}
 use Rattle.modes.specs.Modes.{unknown, rateAt, withMode}
 use Rattle.demands.specs.Modes.{CountingMode, at24, at25, at30, at30drop}
 use Rattle.demands.specs.Records.{Acceptable}
+
+-- "mode above 2": the modes that are known are 0, 1 and 2
+pub known-exactly : (mode : ℕ) → (unknown mode ≡ false) ↔ (mode ≤ 2)
+known-exactly mode = (λ e. let few = leb-false 3 mode e in omega arith, λ low. lt-leb 3 mode (omega arith))
 
 pub known : {mode : ℕ} {drop : Flag} → CountingMode mode drop → unknown mode ≡ false
 known at24 = refl

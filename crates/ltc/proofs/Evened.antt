@@ -12,7 +12,7 @@ use Rattle.clock.specs.Rates.{isYes}
 use Rattle.record.specs.declared.types.Record.{Record}
 use Rattle.record.specs.Flags.{places}
 use Rattle.record.specs.Record.{marked}
-use Rattle.record.specs.Fits.{Writable}
+use Rattle.record.proofs.Accepted.{Writable}
 use Rattle.record.proofs.RoundTrip.{info-below, mark-adds, mark-counts}
 use Rattle.modes.specs.Modes.{rateAt}
 use Rattle.modes.specs.Calls.{informationIn}

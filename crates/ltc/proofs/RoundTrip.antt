@@ -11,8 +11,8 @@ use lib.ListN.{length, take, drop, length-append}
 use lib.Seq.{take-at, drop-at}
 use borrow.Author.Tests.{eq-eqb, eqb-true, not-false}
 use Rattle.refusals.specs.Table.{wrong-length, unknown-mode, element-too-high, wrong-sync, wrong-check, outside-the-clock, skipped-address, mark-set, no-room}
-use Rattle.refusals.specs.Answer.{Refusal, Clear}
-use Rattle.refusals.proofs.Answered.{neither, otherwise-accepted, accepted-as}
+use Rattle.refusals.specs.Answer.{Refusal}
+use Rattle.refusals.proofs.Answered.{Clear, neither, otherwise-accepted, accepted-as}
 use Rattle.refusals.proofs.ByNumber.{clear-at, clear-from, clear-before, clear-whole}
 use Rattle.bits.specs.Bits.{value, toBits, someAbove}
 use Rattle.bits.proofs.Bit.{bits-of-number, length-toBits, within-append}

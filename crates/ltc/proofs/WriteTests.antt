@@ -7,7 +7,7 @@ use Prim.Native.Nat.{ℕ, _+_, _-_, _^_, _<_}
 use lib.ListN.{length}
 use borrow.Rule.Slice.PartMut.{putMid}
 use Rattle.refusals.specs.Table.{unknown-mode, mark-set, no-room}
-use Rattle.refusals.specs.Answer.{Clear}
+use Rattle.refusals.proofs.Answered.{Clear}
 use Rattle.refusals.proofs.ByNumber.{rowsBefore, clear-whole}
 use Rattle.runs.specs.declared.types.Written.{Written}
 use Rattle.runs.specs.declared.types.Written.the-variants.{Done, Refused as Unwritten}
@@ -20,9 +20,8 @@ use Rattle.record.specs.declared.types.Record.{Record}
 use Rattle.record.specs.declared.types.Packed.{Packed}
 use Rattle.record.specs.declared.types.Packed.the-variants.{Bits, Refused as Unpackable}
 use Rattle.record.specs.Flags.{places}
-use Rattle.record.specs.Fits.{Writable}
 use Rattle.record.specs.Calls.{packedOf}
-use Rattle.record.proofs.Accepted.{writable}
+use Rattle.record.proofs.Accepted.{Writable, writable}
 use Rattle.modes.specs.declared.types.Rated.{Rated}
 use Rattle.modes.specs.declared.types.Rated.the-variants.{Known, Refused as Unrated}
 use Rattle.modes.specs.Modes.{unknown, rateAt, withMode, ratedOf}

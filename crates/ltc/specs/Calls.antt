@@ -20,7 +20,7 @@ use Rattle.modes.specs.Calls.{recordIn, bitsRefusalsIn, writeRefusalsIn}
 use Rattle.modes.specs.Modes.{unknown, withMode}
 use Rattle.ltc.specs.Word.{syncWord, wordWith, infoIn, oddZeros, wordOf}
 
--- reading: 1 not exactly 80 elements; 2 the mode; 3 an element above 1; 4 another sync word; 5 odd zeros; then the record's
+-- reading: 1 not exactly 80 elements; 2 a mode that is unknown; 3 an element above 1; 4 another sync word; 5 odd zeros; then the record's
 abbrev pub readRefusals : ℕ → List ℕ → List Refusal
 readRefusals mode word =
     (wrong-length when not (eqb (length word) 80))

@@ -23,6 +23,7 @@ pub fn unmarked(r: Record) -> Record
     let groups = r.groups;
     let drop = flags.drop;
     let colour = flags.colour;
+    let mark = Flag::No;
     let bgf0 = flags.bgf0;
     let bgf1 = flags.bgf1;
     let bgf2 = flags.bgf2;
@@ -31,7 +32,7 @@ pub fn unmarked(r: Record) -> Record
         flags: Flags {
             drop,
             colour,
-            mark: Flag::No,
+            mark,
             bgf0,
             bgf1,
             bgf2,

@@ -6,8 +6,7 @@ use mathlib.Core.Bool.{Bool, true, false}
 use mathlib.Core.Logic.{_↔_}
 use native.Mathlib.Omega.{arith}
 use Rattle.refusals.specs.Table.{unknown-mode}
-use Rattle.refusals.specs.Answer.{Clear}
-use Rattle.refusals.proofs.Answered.{accepted-as}
+use Rattle.refusals.proofs.Answered.{Clear, accepted-as}
 use Rattle.refusals.proofs.ByNumber.{clear-at}
 use Rattle.clock.specs.declared.types.Rate.{Rate}
 use Rattle.record.specs.declared.types.Record.{Record}

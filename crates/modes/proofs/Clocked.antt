@@ -11,15 +11,15 @@ use Rattle.clock.specs.declared.types.DayFrame.{DayFrame}
 use Rattle.clock.specs.declared.types.Numbered.the-variants.{Number, Refused as Unnumbered}
 use Rattle.clock.specs.declared.types.Placed.the-variants.{At, Refused as Unplaced}
 use Rattle.clock.specs.declared.types.Span.the-variants.{Frames, Refused as Unmeasured}
-use Rattle.clock.specs.Calls.{numberOf, addressOf, spanOf, plusOf}
+use Rattle.clock.specs.Calls.{numberOf, addressOf, fieldsOf, spanOf, plusOf}
 use Rattle.clock.proofs.Answers as clock
 use Rattle.clock.proofs.Moves as moves
 use Rattle.modes.specs.Modes.{unknown, rateAt}
-use Rattle.modes.specs.Calls.{numberIn, addressIn, spanIn, plusIn}
+use Rattle.modes.specs.Calls.{numberIn, addressIn, fieldsIn, spanIn, plusIn}
 use Rattle.modes.proofs.InMode.{known-is, answered}
 
 module _ (mode : ℕ) (drop : Flag) where
-  -- in a mode that is known, the number of an address and the address of a number are those at its rate
+  -- in a mode that is known, each call of the clock answers as it does at the mode's rate: so its laws hold by mode
   pub number-at-rate : (a : Address) → unknown mode ≡ false → numberIn mode drop a ≡ numberOf (rateAt mode) drop a
   unfolding numberIn
   number-at-rate a known = known-is Unnumbered mode (λ rate. numberOf rate drop a) known
@@ -27,6 +27,18 @@ module _ (mode : ℕ) (drop : Flag) where
   pub address-at-rate : (n : DayFrame) → unknown mode ≡ false → addressIn mode drop n ≡ addressOf (rateAt mode) drop n
   unfolding addressIn
   address-at-rate n known = known-is Unplaced mode (λ rate. addressOf rate drop n) known
+
+  pub fields-at-rate : (a : Address) → unknown mode ≡ false → fieldsIn mode drop a ≡ fieldsOf (rateAt mode) drop a
+  unfolding fieldsIn
+  fields-at-rate a known = known-is Unplaced mode (λ rate. fieldsOf rate drop a) known
+
+  pub span-at-rate : (from to : Address) → unknown mode ≡ false → spanIn mode drop from to ≡ spanOf (rateAt mode) drop from to
+  unfolding spanIn
+  span-at-rate from to known = known-is Unmeasured mode (λ rate. spanOf rate drop from to) known
+
+  pub plus-at-rate : (a : Address) (z : ℤ) → unknown mode ≡ false → plusIn mode drop a z ≡ plusOf (rateAt mode) drop a z
+  unfolding plusIn
+  plus-at-rate a z known = known-is Unplaced mode (λ rate. plusOf rate drop a z) known
 
   -- "Frame numbers of a day and addresses match one to one, drop-frame or not"
   pub one-to-one : (a : Address) (n : DayFrame) → numberIn mode drop a ≡ Number n ↔ addressIn mode drop n ≡ At a
@@ -40,7 +52,7 @@ module _ (mode : ℕ) (drop : Flag) where
 
   -- "Adding the distance gives the second address back"
   pub adding-the-distance : (from to : Address) (z : ℤ) → spanIn mode drop from to ≡ Frames z → plusIn mode drop from z ≡ At to
-  unfolding spanIn plusIn
+  unfolding spanIn
   adding-the-distance from to z e =
       let at = answered Unmeasured mode (λ rate. spanOf rate drop from to) (Frames z) moves.no-span e in
-      known-is Unplaced mode (λ rate. plusOf rate drop from z) (at .0) ∙ moves.adding-the-distance (rateAt mode) drop from to z (at .1)
+      plus-at-rate from z (at .0) ∙ moves.adding-the-distance (rateAt mode) drop from to z (at .1)

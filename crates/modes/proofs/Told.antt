@@ -3,8 +3,8 @@
 use Prim.Native.Nat.{ℕ}
 use mathlib.Core.Path.{_≡_, sym, ap, _∙_}
 use native.Mathlib.Omega.{arith}
-use Rattle.refusals.specs.Answer.{answer, Clear}
-use Rattle.refusals.proofs.Answered.{carried, accepted-as}
+use Rattle.refusals.specs.Answer.{answer}
+use Rattle.refusals.proofs.Answered.{Clear, carried, accepted-as}
 use Rattle.record.specs.declared.types.Record.{Record}
 use Rattle.record.specs.declared.types.Packed.{Packed}
 use Rattle.record.specs.declared.types.Packed.the-variants.{Bits, Refused as Unpackable}

@@ -1,4 +1,4 @@
--- "Modes are numbers: 0 is 24 frames, 1 is 25, 2 is 30": the one table, and the one place where a mode is unknown.
+-- "Modes are numbers: 0 is 24 frames, 1 is 25, 2 is 30": the table of modes, and the one place where a mode is unknown.
 -- Assumes nothing.
 use Prim.Native.Nat.{ℕ, zero, suc}
 use mathlib.Core.Bool.{Bool}
@@ -26,6 +26,7 @@ rowOf [] n = At30
 rowOf (rate ∷ rates) zero = rate
 rowOf (rate ∷ rates) (suc n) = rowOf rates n
 
+-- the rate of a mode that is known
 abbrev pub rateAt : ℕ → Rate
 rateAt = rowOf table
 
@@ -37,6 +38,6 @@ withMode mode rows = (unknown-mode when unknown mode) ∷ rows
 abbrev pub inMode : {A : Type 0} → (ℕ → A) → ℕ → (Rate → A) → A
 inMode refused mode call = answer refused (withMode mode []) (call (rateAt mode))
 
--- the rate of a mode
+-- 2, or the rate of a mode
 unfoldable pub ratedOf : ℕ → Rated
 ratedOf mode = inMode Refused mode Known

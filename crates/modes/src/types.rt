@@ -1,6 +1,6 @@
 use clock::Rate;
 
-// The rate of a mode.
+// The rate of a mode, or the number that it is refused with.
 pub enum Rated {
     Known(Rate),
     Refused(u8),

@@ -9,7 +9,7 @@ use lib.ListN.{length, getD, take, drop, replicate, length-append, length-drop}
 use lib.Seq.{drop-at, drop-cons, split-at, length-take-le}
 use borrow.Author.Tests.{le-ltb, eq-eqb, not-false}
 use Rattle.refusals.specs.Table.{element-too-high, wrong-sync}
-use Rattle.refusals.specs.Answer.{Clear}
+use Rattle.refusals.proofs.Answered.{Clear}
 use Rattle.refusals.proofs.ByNumber.{clear-at}
 use Rattle.bits.specs.Bits.{AllBits}
 use Rattle.bits.proofs.Bit.{head-within, tail-within}

@@ -33,7 +33,7 @@ heardIn mode bits = cond (eqb (length bits) 80 && same (drop 64 bits) syncWord) 
 abbrev pub after : Reader → Heard → Stepped
 after reader heard = record { heard = heard; reader = reader }
 
--- of a reader: 2 the mode; 13 straight after it
+-- of a reader: 2 a mode that is unknown; 13 straight after it
 abbrev pub readerRefusals : Reader → List Refusal
 readerRefusals reader = (unknown-mode when unknown (reader .mode)) ∷ (state-not-reached when unreached reader) ∷ []
 

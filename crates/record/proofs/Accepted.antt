@@ -1,21 +1,37 @@
 -- What acceptance says of a record's fields.
 -- Assumes nothing.
+use Prim.Native.Nat.{_<_, _≤_}
 use native.Mathlib.Omega.{arith}
 use lib.Dec.{ltb}
 use borrow.Author.Tests.{ltb-false}
 use Rattle.refusals.specs.Table.{outside-the-clock}
-use Rattle.refusals.specs.Answer.{Clear}
-use Rattle.refusals.proofs.Answered.{neither}
+use Rattle.refusals.proofs.Answered.{Clear, neither}
 use Rattle.refusals.proofs.ByNumber.{clear-at}
 use Rattle.clock.specs.declared.types.Rate.{Rate}
+use Rattle.clock.specs.declared.types.Address.{Address}
 use Rattle.clock.specs.Rates.{framesInSecond}
 use Rattle.clock.specs.Clock.{outside}
 use Rattle.clock.proofs.Face.{inside}
 use Rattle.clock.proofs.Sizes.{rate-small}
+use Rattle.record.specs.declared.types.Groups.{Groups}
 use Rattle.record.specs.declared.types.Record.{Record}
 use Rattle.record.specs.Record.{groupAbove15}
-use Rattle.record.specs.Fits.{Writable}
 use Rattle.record.specs.Calls.{writeRefusals}
+
+-- an address and groups that fit their bits
+pub record Writable (a : Address) (g : Groups) : Type 0 where
+  pub hours : a .hours < 24
+  pub minutes : a .minutes < 60
+  pub seconds : a .seconds < 60
+  pub frames : a .frames .0 < 30
+  pub group1 : g .group1 ≤ 15
+  pub group2 : g .group2 ≤ 15
+  pub group3 : g .group3 ≤ 15
+  pub group4 : g .group4 ≤ 15
+  pub group5 : g .group5 ≤ 15
+  pub group6 : g .group6 ≤ 15
+  pub group7 : g .group7 ≤ 15
+  pub group8 : g .group8 ≤ 15
 
 -- a record that is clear of refusals fits its bits
 pub writable : (rate : Rate) (r : Record) → Clear (writeRefusals rate r) → Writable (r .address) (r .groups)

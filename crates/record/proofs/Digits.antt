@@ -10,8 +10,7 @@ use lib.Dec.{ltb}
 use lib.ListN.{drop}
 use borrow.Author.Tests.{ltb-false}
 use Rattle.refusals.specs.Table.{outside-the-clock}
-use Rattle.refusals.specs.Answer.{Clear}
-use Rattle.refusals.proofs.Answered.{neither}
+use Rattle.refusals.proofs.Answered.{Clear, neither}
 use Rattle.refusals.proofs.ByNumber.{clear-at}
 use Rattle.bits.proofs.Neighbours.{Each, Digit, Small}
 use Rattle.clock.specs.declared.types.Rate.{Rate}
@@ -20,7 +19,7 @@ use Rattle.clock.specs.Clock.{outside}
 use Rattle.clock.proofs.Face.{inside}
 use Rattle.clock.proofs.Sizes.{rate-small}
 use Rattle.record.specs.Layout.{bits}
-use Rattle.record.specs.Record.{recordOf, addressIn, digitAbove9}
+use Rattle.record.specs.Record.{recordOf, addressHeld, digitAbove9}
 use Rattle.record.specs.Calls.{bitsRefusals}
 
 abbrev digit : ℕ → ℕ → Digit
@@ -39,8 +38,8 @@ tens most ones n h = omega arith
 pub small-digits : (rate : Rate) (info : ℕ) → Clear (bitsRefusals rate info) → Each (Small info) digits
 unfolding recordOf
 small-digits rate info clear =
-    let eight = neither (digitAbove9 info) (outside (framesInSecond rate) (addressIn info)) (clear-at outside-the-clock (bitsRefusals rate info) clear) in
-    let within = inside (framesInSecond rate) (addressIn info) (eight .1) in
+    let eight = neither (digitAbove9 info) (outside (framesInSecond rate) (addressHeld info)) (clear-at outside-the-clock (bitsRefusals rate info) clear) in
+    let within = inside (framesInSecond rate) (addressHeld info) (eight .1) in
     let f = neither (ltb 9 (bits 0 3 info)) _ (eight .0) in
     let s = neither (ltb 9 (bits 16 19 info)) _ (f .1) in
     let m = neither (ltb 9 (bits 32 35 info)) _ (s .1) in

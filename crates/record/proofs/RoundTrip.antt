@@ -11,8 +11,8 @@ use lib.Dec.{ltb, lit<}
 use lib.ListN.{getD, take}
 use borrow.Author.Tests.{ltb-false, le-ltb}
 use Rattle.refusals.specs.Table.{outside-the-clock, skipped-address}
-use Rattle.refusals.specs.Answer.{Refusal, Clear}
-use Rattle.refusals.proofs.Answered.{neither, otherwise-accepted, accepted-as}
+use Rattle.refusals.specs.Answer.{Refusal}
+use Rattle.refusals.proofs.Answered.{Clear, neither, otherwise-accepted, accepted-as}
 use Rattle.refusals.proofs.ByNumber.{clear-at, clear-from}
 use Rattle.clock.specs.declared.types.Rate.{Rate}
 use Rattle.clock.specs.declared.types.Rate.the-variants.{At24, At25, At30}
@@ -24,10 +24,9 @@ use Rattle.record.specs.declared.types.Unpacked.the-variants.{Holds, Ref
 use Rattle.record.specs.declared.types.Packed.the-variants.{Bits, Refused as Unpackable}
 use Rattle.record.specs.Layout.{bits, join, split, layout}
 use Rattle.record.specs.Flags.{flagOf, bitOf, flagAt, Places, places}
-use Rattle.record.specs.Record.{flagsIn, recordOf, standingAt, fieldsOf, infoOf, digitAbove9, groupAbove15, marked}
-use Rattle.record.specs.Fits.{Writable}
+use Rattle.record.specs.Record.{flagsHeld, recordOf, standingAt, fieldsOf, infoOf, digitAbove9, groupAbove15, marked}
 use Rattle.record.specs.Calls.{recordRefusals, bitsRefusals, writeRefusals, packedOf, unpackedOf}
-use Rattle.record.proofs.Accepted.{writable}
+use Rattle.record.proofs.Accepted.{Writable, writable}
 use Rattle.record.proofs.Fields.{total, Below, split-join, join-split, join-below, field-at, allOnes, ones-join}
 
 -- a flag is one bit, and is read back from it
@@ -138,7 +137,7 @@ bit-of-flag n = go (n % 2) (omega arith)
 
 -- flags that were read stand where they were read
 standing-again :
-    (rate : Rate) (n : ℕ) → let at : ℕ → ℕ = λ place. bitOf (standingAt (places rate) (flagsIn (places rate) n) place) in
+    (rate : Rate) (n : ℕ) → let at : ℕ → ℕ = λ place. bitOf (standingAt (places rate) (flagsHeld (places rate) n) place) in
     (at 27 ≡ bits 27 27 n) × ((at 43 ≡ bits 43 43 n) × (at 59 ≡ bits 59 59 n))
 standing-again At24 n = (bit-of-flag (n / 2 ^ 27), (bit-of-flag (n / 2 ^ 43), bit-of-flag (n / 2 ^ 59)))
 standing-again At25 n = (bit-of-flag (n / 2 ^ 27), (bit-of-flag (n / 2 ^ 43), bit-of-flag (n / 2 ^ 59)))

@@ -15,8 +15,8 @@ use Rattle.record.specs.Layout.{bits, join, layout}
 use Rattle.record.specs.Flags.{bitOf, flagAt, Places, places}
 
 -- "Low bit first in each field": hours, minutes, seconds and frames, each by its units and tens
-abbrev pub addressIn : ℕ → Address
-addressIn info =
+abbrev pub addressHeld : ℕ → Address
+addressHeld info =
     showing
     (bits 48 51 info + 10 * bits 56 57 info)
     (bits 32 35 info + 10 * bits 40 42 info)
@@ -24,8 +24,8 @@ addressIn info =
     (bits 0 3 info + 10 * bits 8 9 info)
 
 -- three of the flags stand at one place at every rate, and three by the rate's places
-abbrev pub flagsIn : Places → ℕ → Flags
-flagsIn table info =
+abbrev pub flagsHeld : Places → ℕ → Flags
+flagsHeld table info =
     record {
       drop = flagAt 10 info;
       colour = flagAt 11 info;
@@ -35,8 +35,8 @@ flagsIn table info =
       bgf2 = flagAt (table .bgf2) info;
     }
 
-abbrev pub groupsIn : ℕ → Groups
-groupsIn info =
+abbrev pub groupsHeld : ℕ → Groups
+groupsHeld info =
     record {
       group1 = bits 4 7 info;
       group2 = bits 12 15 info;
@@ -50,7 +50,7 @@ groupsIn info =
 
 -- the record that the bits hold
 unfoldable pub recordOf : Rate → ℕ → Record
-recordOf rate info = record { address = addressIn info; flags = flagsIn (places rate) info; groups = groupsIn info }
+recordOf rate info = record { address = addressHeld info; flags = flagsHeld (places rate) info; groups = groupsHeld info }
 
 -- the flag that stands at a place, by the same table
 abbrev pub standingAt : Places → Flags → ℕ → Flag

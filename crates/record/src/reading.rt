@@ -1,7 +1,7 @@
 // From 64 information bits to a record.
 ghost use mathlib.Core.Path.{_≡_};
 ghost use Rattle.record.specs.Flags.{places};
-ghost use Rattle.record.specs.Record.{addressIn, flagsIn, groupsIn, recordOf, digitAbove9};
+ghost use Rattle.record.specs.Record.{addressHeld, flagsHeld, groupsHeld, recordOf, digitAbove9};
 ghost use Rattle.record.specs.Calls.{unpackedOf};
 use crate::flags::by_25;
 use crate::flags::flag;
@@ -23,8 +23,8 @@ fn has_bad_digit(info: u64) -> bool
             | ((9 < info / 0x1_0000_0000 % 16) | (9 < info / 0x1_0000_0000_0000 % 16)))
 }
 
-fn address_in(info: u64) -> Address
-    ensures { λ r. ⌜ r ≡ addressIn info ⌝ }
+fn address_held(info: u64) -> Address
+    ensures { λ r. ⌜ r ≡ addressHeld info ⌝ }
 {
     let frames = (info / 0x1 % 16 + 10 * (info / 0x100 % 4)) as u8;
     let seconds = (info / 0x1_0000 % 16 + 10 * (info / 0x100_0000 % 8)) as u8;
@@ -38,8 +38,8 @@ fn address_in(info: u64) -> Address
     }
 }
 
-fn flags_in(rate: Rate, info: u64) -> Flags
-    ensures { λ r. ⌜ r ≡ flagsIn (places rate) info ⌝ }
+fn flags_held(rate: Rate, info: u64) -> Flags
+    ensures { λ r. ⌜ r ≡ flagsHeld (places rate) info ⌝ }
 {
     let at27 = flag(info / 0x800_0000 % 2);
     let at43 = flag(info / 0x800_0000_0000 % 2);
@@ -54,8 +54,8 @@ fn flags_in(rate: Rate, info: u64) -> Flags
     }
 }
 
-fn groups_in(info: u64) -> Groups
-    ensures { λ r. ⌜ r ≡ groupsIn info ⌝ }
+fn groups_held(info: u64) -> Groups
+    ensures { λ r. ⌜ r ≡ groupsHeld info ⌝ }
 {
     Groups {
         group1: (info / 0x10 % 16) as u8,
@@ -69,20 +69,20 @@ fn groups_in(info: u64) -> Groups
     }
 }
 
-fn record_at(rate: Rate, info: u64) -> Record
+fn record_held(rate: Rate, info: u64) -> Record
     ensures { λ r. ⌜ r ≡ recordOf rate info ⌝ }
 {
     Record {
-        address: address_in(info),
-        flags: flags_in(rate, info),
-        groups: groups_in(info),
+        address: address_held(info),
+        flags: flags_held(rate, info),
+        groups: groups_held(info),
     }
 }
 
 pub fn from_bits(rate: Rate, info: u64) -> Unpacked
     ensures { λ r. ⌜ r ≡ unpackedOf rate info ⌝ }
 {
-    let record = record_at(rate, info);
+    let record = record_held(rate, info);
     let found = judge(rate, has_bad_digit(info), record);
     match found {
         Verdict::Refused(number) => Unpacked::Refused(number),

@@ -1,8 +1,10 @@
 // From a record to 64 information bits.
 ghost use mathlib.Core.Path.{_≡_};
+ghost use Rattle.refusals.specs.declared.types.Verdict.the-variants.{Sound};
+ghost use Rattle.refusals.specs.Answer.{verdictOf};
 ghost use Rattle.record.specs.Record.{infoOf, groupAbove15};
-ghost use Rattle.record.specs.Fits.{QuarterOf, Writable};
-ghost use Rattle.record.specs.Calls.{packedOf};
+ghost use Rattle.record.specs.Fits.{QuarterOf};
+ghost use Rattle.record.specs.Calls.{writeRefusals, packedOf};
 use crate::flags::bit;
 use crate::flags::by_25;
 use crate::judging::judge;
@@ -34,7 +36,7 @@ fn quarter(number: u8, low: u8, first: Flag, second: Flag, high: u8) -> u64
 
 // The four quarters of a record, with the flags whose places the rate decides.
 fn packed(rate: Rate, r: Record) -> u64
-    requires { ⌜ Writable (r .address) (r .groups) ⌝ }
+    requires { ⌜ verdictOf (writeRefusals rate r) ≡ Sound ⌝ }
     ensures { λ n. ⌜ n ≡ infoOf rate r ⌝ }
 {
     let a = r.address;

@@ -5,7 +5,12 @@ use mathlib.Core.Path.{_≡_, refl, _∙_, sym}
 use mathlib.Core.Bool.{Bool, true, false, _||_, cond, true≢false}
 use mathlib.Core.List.{List, [], _∷_}
 use mathlib.Core.Logic.{_⊎_, inl, inr, ⊎-elim}
-use Rattle.refusals.specs.Answer.{Refusal, answer, Clear}
+use Rattle.refusals.specs.Answer.{Refusal, answer}
+
+-- no test of the list holds
+abbrev pub Clear : List Refusal → Type 0
+Clear [] = Unit {0}
+Clear (row ∷ rows) = (row .applies ≡ false) × Clear rows
 
 -- every number of the list is below the limit
 abbrev pub Under : ℕ → List Refusal → Type 0

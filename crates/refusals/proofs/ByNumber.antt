@@ -6,7 +6,8 @@ use mathlib.Core.Bool.{Bool, true, false, cond, true≢false}
 use mathlib.Core.List.{List, [], _∷_}
 use lib.Dec.{eqb}
 use borrow.Author.Tests.{eqb-true}
-use Rattle.refusals.specs.Answer.{Refusal, answer, Clear, testOf}
+use Rattle.refusals.specs.Answer.{Refusal, answer, testOf}
+use Rattle.refusals.proofs.Answered.{Clear}
 
 -- the rows from a number on, and those before it
 abbrev pub rowsFrom : ℕ → List Refusal → List Refusal

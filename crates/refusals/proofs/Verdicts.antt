@@ -6,8 +6,8 @@ use mathlib.Core.List.{List}
 use native.Mathlib.Omega.{arith}
 use Rattle.refusals.specs.declared.types.Verdict.{Verdict}
 use Rattle.refusals.specs.declared.types.Verdict.the-variants.{Sound, Refused as Unsound}
-use Rattle.refusals.specs.Answer.{Refusal, answer, verdictOf, Clear}
-use Rattle.refusals.proofs.Answered.{carried, accepted-as}
+use Rattle.refusals.specs.Answer.{Refusal, answer, verdictOf}
+use Rattle.refusals.proofs.Answered.{Clear, carried, accepted-as}
 
 -- what a call answers on a verdict
 told : {A : Type 0} → (ℕ → A) → A → Verdict → A

@@ -1,9 +1,9 @@
--- "The lowest that applies is given": a call lists its refusals in the order of the table, and the first whose test holds is its answer.
+-- "The lowest that applies is given, except that 13 comes straight after 2": a call lists its refusals in the order in which they are given, and the
+-- first whose test holds is its answer. What it is for a list to follow an order is said here too.
 -- Assumes nothing.
 use Prim.Native.Nat.{ℕ}
 use mathlib.Core.Bool.{Bool, true, false, cond}
 use mathlib.Core.List.{List, [], _∷_}
-use mathlib.Core.Path.{_≡_}
 use lib.Dec.{eqb}
 use Rattle.refusals.specs.declared.types.Verdict.{Verdict}
 use Rattle.refusals.specs.declared.types.Verdict.the-variants.{Sound, Refused}
@@ -25,11 +25,6 @@ answer refused (row ∷ rows) accepted = cond (row .applies) (refused (row .numb
 -- what a list of refusals comes to
 abbrev pub verdictOf : List Refusal → Verdict
 verdictOf rows = answer Refused rows Sound
-
--- no test of the list holds
-abbrev pub Clear : List Refusal → Type 0
-Clear [] = Unit {0}
-Clear (row ∷ rows) = (row .applies ≡ false) × Clear rows
 
 -- the test of a number in a call's list: a number that the list does not have never applies
 abbrev pub testOf : ℕ → List Refusal → Bool

@@ -10,8 +10,8 @@ use native.Mathlib.Omega.{arith}
 use lib.ListN.{length, take, drop}
 use borrow.Rule.Slice.PartMut.{putMid}
 use borrow.Author.Tests.{ltb-false, le-ltb}
-use Rattle.refusals.specs.Answer.{Refusal, answer, Clear, testOf}
-use Rattle.refusals.proofs.Answered.{otherwise-accepted, clear-or-refused, accepted-as, kept}
+use Rattle.refusals.specs.Answer.{Refusal, answer, testOf}
+use Rattle.refusals.proofs.Answered.{Clear, otherwise-accepted, clear-or-refused, accepted-as, kept}
 use Rattle.refusals.proofs.ByNumber.{rowsBefore, given-at}
 use Rattle.runs.specs.declared.types.Written.{Written}
 use Rattle.runs.specs.declared.types.Written.the-variants.{Done, Refused}

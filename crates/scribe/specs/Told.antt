@@ -60,7 +60,7 @@ scribeAfter before characters =
 unfoldable pub tellingOf : Scribe → List ℕ → Telling
 tellingOf before characters = record { scribe = scribeAfter before characters; length = length (textOf before characters) }
 
--- 2 the mode; 13 straight after it; 12, stretched to the places that are written to here, fewer than 64 for each character, which are room for its line
+-- 2 a mode that is unknown; 13 straight after it; 12, stretched to the places that are written to here, fewer than 64 for each character, which are room for its line
 abbrev pub tellRefusals : Scribe → List ℕ → List ℕ → List Refusal
 tellRefusals before characters out =
     readerRefusals (before .reader) ++ ((no-room when noRoom (64 * length characters) 0 (length out)) ∷ [])

@@ -10,8 +10,7 @@ use lib.Dec.{eqb}
 use lib.ListN.{length, take, drop}
 use borrow.Author.Tests.{eq-eqb, eqb-true, not-false}
 use Rattle.refusals.specs.Table.{wrong-length, unknown-mode, element-too-high, wrong-sync, wrong-check, outside-the-clock, no-room}
-use Rattle.refusals.specs.Answer.{Clear}
-use Rattle.refusals.proofs.Answered.{otherwise-accepted, accepted-as}
+use Rattle.refusals.proofs.Answered.{Clear, otherwise-accepted, accepted-as}
 use Rattle.refusals.proofs.ByNumber.{clear-at, clear-from, clear-before, clear-whole}
 use Rattle.runs.specs.declared.types.Written.the-variants.{Done}
 use Rattle.runs.specs.Run.{placed}

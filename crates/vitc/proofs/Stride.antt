@@ -2,14 +2,18 @@
 -- Assumes nothing.
 use Prim.Native.Nat.{ℕ, zero, suc, _+_, _%_, _<_}
 use mathlib.Core.Path.{_≡_, refl, sym}
-use mathlib.Core.Bool.{false}
+use mathlib.Core.Bool.{false, cond}
 use mathlib.Core.List.{List, [], _∷_, _++_}
 use native.Mathlib.Omega.{arith}
 use native.Mathlib.Nat.{zero-add, add-zero}
 use lib.Dec.{eqb}
 use lib.ListN.{length, drop}
 use borrow.Author.Tests.{eq-eqb, ne-eqb}
-use Rattle.vitc.specs.Line.{isOne, onesFrom}
+use Rattle.vitc.specs.Line.{onesFrom}
+
+-- 1 for a one, and 0 for any other element
+abbrev pub oneIn : ℕ → ℕ
+oneIn element = cond (eqb element 1) 1 0
 
 module _ (remainder : ℕ) where
   -- the counts of two runs side by side
@@ -34,7 +38,7 @@ module _ (remainder : ℕ) where
 
   -- the element at a place of the remainder counts, and the next seven do not
   pub stride : (x : ℕ) (xs : List ℕ) (place : ℕ) → place % 8 ≡ remainder
-      → onesFrom remainder place (x ∷ xs) ≡ isOne x + onesFrom remainder (place + 8) (drop 7 xs)
+      → onesFrom remainder place (x ∷ xs) ≡ oneIn x + onesFrom remainder (place + 8) (drop 7 xs)
   unfolding onesFrom
   stride x xs place at =
       let next : suc place + 7 ≡ place + 8 = omega arith in

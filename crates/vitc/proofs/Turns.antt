@@ -15,9 +15,9 @@ use Rattle.bits.proofs.Bit.{within-cons, length-toBits}
 use Rattle.bits.proofs.Inverse.{low-bits}
 use Rattle.runs.specs.Run.{placed}
 use Rattle.runs.proofs.Parts.{put-is-placed}
-use Rattle.vitc.specs.Line.{someBelow, isOne, onesFrom, onesAt, groups}
+use Rattle.vitc.specs.Line.{someBelow, onesFrom, onesAt, groups}
 use Rattle.vitc.specs.Loops.{Cleaning, Testing, Striding, Grouping}
-use Rattle.vitc.proofs.Stride.{skip, stride}
+use Rattle.vitc.proofs.Stride.{oneIn, skip, stride}
 
 module _ (run : List ℕ) where
   pub clean-begins : Cleaning run (length run)
@@ -53,9 +53,9 @@ module _ (remainder : ℕ) (run : List ℕ) where
       }
 
   pub stride-turns : (odd place : ℕ) → Striding remainder run odd place → place < length run
-      → Striding remainder run ((odd + isOne (getD run place 0)) % 2) (place + 8)
+      → Striding remainder run ((odd + oneIn (getD run place 0)) % 2) (place + 8)
   stride-turns odd place s h =
-      let one = isOne (getD run place 0) in
+      let one = oneIn (getD run place 0) in
       let next = drop-cons run place 0 h in
       let same : suc place + 7 ≡ place + 8 = omega arith in
       let counted : onesFrom remainder place (drop place run) ≡ one + onesFrom remainder (place + 8) (drop (place + 8) run) =

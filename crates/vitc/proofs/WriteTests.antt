@@ -9,7 +9,8 @@ use lib.ListN.{length}
 use borrow.Rule.Slice.PartMut.{putMid}
 use borrow.Author.Tests.{lt-ltb, ltb-true}
 use Rattle.refusals.specs.Table.{no-room}
-use Rattle.refusals.specs.Answer.{Refusal, Clear}
+use Rattle.refusals.specs.Answer.{Refusal}
+use Rattle.refusals.proofs.Answered.{Clear}
 use Rattle.refusals.proofs.ByNumber.{clear-whole}
 use Rattle.runs.specs.declared.types.Written.the-variants.{Done, Refused}
 use Rattle.runs.specs.Run.{noRoom}

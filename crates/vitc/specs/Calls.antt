@@ -17,7 +17,7 @@ use Rattle.modes.specs.Modes.{unknown, withMode}
 use Rattle.modes.specs.Calls.{recordIn, bitsRefusalsIn, writeRefusalsIn}
 use Rattle.vitc.specs.Line.{infoIn, wrongPair, wrongCrc, lineOf}
 
--- 1 not exactly 90 elements; 2 the mode; 3 an element above 1; 4 a sync pair is wrong; 5 CRC; then those of the 64 bits
+-- 1 not exactly 90 elements; 2 a mode that is unknown; 3 an element above 1; 4 a sync pair is wrong; 5 CRC; then those of the 64 bits
 abbrev pub readRefusals : ℕ → List ℕ → List Refusal
 readRefusals mode line =
     (wrong-length when not (eqb (length line) 90))
@@ -30,7 +30,7 @@ readRefusals mode line =
 unfoldable pub readOf : ℕ → List ℕ → Unpacked
 readOf mode line = answer Unheld (readRefusals mode line) (Holds (recordIn mode (infoIn line)))
 
--- 2 the mode; those of the record; 12 fewer than 90 elements from the start given, or start past the end
+-- 2 a mode that is unknown; those of the record; 12 fewer than 90 elements from the start given, or start past the end
 abbrev pub writtenRows : ℕ → Record → ℕ → List ℕ → List Refusal
 writtenRows mode r start run = withMode mode (writeRefusalsIn mode r ++ ((no-room when noRoom 90 start (length run)) ∷ []))
 

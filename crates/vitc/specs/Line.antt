@@ -39,15 +39,11 @@ wrongAt line g = not (eqb (getD line (10 * g) 0) 1) || not (eqb (getD line (10 *
 unfoldable pub wrongPair : List ℕ → Bool
 wrongPair line = someBelow 9 (wrongAt line)
 
--- 1 for a one, and 0 for any other element
-abbrev pub isOne : ℕ → ℕ
-isOne element = cond (eqb element 1) 1 0
-
 -- how many ones stand at places of this remainder by 8, where the first element stands at the place given
 unfoldable pub onesFrom : ℕ → ℕ → List ℕ → ℕ
 onesFrom remainder place [] = 0
 onesFrom remainder place (element ∷ elements) =
-    cond (eqb (place % 8) remainder) (isOne element) 0 + onesFrom remainder (suc place) elements
+    cond (eqb (place % 8) remainder) (cond (eqb element 1) 1 0) 0 + onesFrom remainder (suc place) elements
 
 abbrev pub onesAt : ℕ → List ℕ → ℕ
 onesAt remainder line = onesFrom remainder 0 line

@@ -1,10 +1,13 @@
 // The CRC's eight counts, each as one bit.
 ghost use Prim.Native.Nat.{_%_};
 ghost use mathlib.Core.Path.{_≡_};
-ghost use Rattle.vitc.specs.Line.{isOne, onesAt};
+ghost use mathlib.Core.Bool.{cond};
+ghost use lib.Dec.{eqb};
+ghost use Rattle.vitc.specs.Line.{onesAt};
 
+// 1 for a one, and 0 for any other element.
 fn one_in(element: u8) -> u8
-    ensures { λ r. ⌜ r ≡ isOne element ⌝ }
+    ensures { λ r. ⌜ r ≡ cond (eqb element 1) 1 0 ⌝ }
 {
     if element == 1 {
         return 1;

@@ -1,15 +1,12 @@
 -- `atc::sweeps::has_low_bits` meets its contract. At each turn none of the words passed has one of its three low bits set; what is left to do is the rest of the words.
 -- Assumes nothing.
-use mathlib.Core.Path.{_≡_}
-use mathlib.Core.Bool.{true, false}
-use Prim.Native.Nat.{ℕ, _+_, _-_, _≤_, _<_}
+use mathlib.Core.Path.{_≡_, ap}
+use mathlib.Core.Bool.{true, false, not}
+use Prim.Native.Nat.{ℕ, _+_, _-_, _≤_, _<_, _%_}
 use native.Mathlib.Omega.{arith}
 use mathlib.Core.List.{List}
 use lib.ListN.{length, getD}
 use borrow.Author.Needs.{needs}
-use mathlib.Core.Bool.{not}
-use mathlib.Core.Path.{ap}
-use Prim.Native.Nat.{_%_}
 use borrow.Author.Tests.{eq-eqb, ne-eqb}
 use Rattle.atc.specs.Words.{lowSet, someWord}
 use Rattle.atc.specs.Loops.{Looking}

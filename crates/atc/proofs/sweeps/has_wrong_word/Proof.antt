@@ -1,13 +1,12 @@
 -- `atc::sweeps::has_wrong_word` meets its contract. At each turn none of the words passed is wrong; what is left to do is the rest of the words.
 -- Assumes nothing.
 use mathlib.Core.Path.{_≡_, sym, _∙_}
-use mathlib.Core.Bool.{true, false}
+use mathlib.Core.Bool.{true, false, Bool}
 use Prim.Native.Nat.{ℕ, _+_, _-_, _≤_, _<_}
 use native.Mathlib.Omega.{arith}
 use mathlib.Core.List.{List}
 use lib.ListN.{length, getD}
 use borrow.Author.Needs.{needs}
-use mathlib.Core.Bool.{Bool}
 use Rattle.atc.specs.Words.{wrongWord, someWord}
 use Rattle.atc.specs.Loops.{Looking}
 use Rattle.atc.proofs.Turns.{look-begins, look-turns, look-found, look-ends}

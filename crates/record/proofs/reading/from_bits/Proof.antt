@@ -30,8 +30,8 @@ module _
   unfolding unpackedOf
   held sound = ap Holds read ∙ passed-by Unheld _ (bitsRefusals rate info) found judged-so sound
 
-record-at-requires : tie.Need-record-at-requires
-record-at-requires c κs = search needs
+record-held-requires : tie.Need-record-held-requires
+record-held-requires c κs = search needs
 
 has-bad-digit-requires : tie.Need-has-bad-digit-requires
 has-bad-digit-requires c κs = search needs
@@ -55,7 +55,7 @@ pub from-bits-spec : {M : Type 1} → statement M
 from-bits-spec =
     tie.close
     (tie.spec
-    record-at-requires
+    record-held-requires
     has-bad-digit-requires
     judge-requires
     enum-known-found

@@ -1,6 +1,6 @@
 -- `record::writing::to_bits` meets its contract: the verdict refuses as the call's list does, and what is sound is packed.
 -- Assumes nothing.
-use mathlib.Core.Path.{_≡_, ap, _∙_}
+use mathlib.Core.Path.{_≡_, sym, ap, _∙_}
 use mathlib.Core.Bool.{Bool}
 use Prim.Native.Nat.{ℕ}
 use borrow.Author.Needs.{needs}
@@ -8,13 +8,11 @@ use Rattle.clock.specs.declared.types.Rate.{Rate}
 use Rattle.refusals.specs.declared.types.Verdict.{Verdict}
 use Rattle.refusals.specs.declared.types.Verdict.the-variants.{Sound, Refused as Unsound}
 use Rattle.refusals.specs.Answer.{verdictOf}
-use Rattle.refusals.proofs.Verdicts.{refused-by, passed-by, sound-clear}
+use Rattle.refusals.proofs.Verdicts.{refused-by, passed-by}
 use Rattle.record.specs.declared.types.Record.{Record}
 use Rattle.record.specs.declared.types.Packed.the-variants.{Bits, Refused as Unpackable}
 use Rattle.record.specs.Record.{infoOf, groupAbove15}
-use Rattle.record.specs.Fits.{Writable}
 use Rattle.record.specs.Calls.{recordRefusals, writeRefusals, packedOf}
-use Rattle.record.proofs.Accepted.{writable}
 use Rattle.record.proofs.writing.to_bits.Statement.{statement}
 use Rattle.record.proofs.writing.to_bits.Tie as tie
 
@@ -24,8 +22,8 @@ module _
   judged-so : found ≡ verdictOf (writeRefusals rate r)
   judged-so = judged ∙ rw tested
 
-  fits : found ≡ Sound → Writable (r .address) (r .groups)
-  fits sound = writable rate r (sound-clear Unpackable (Unpackable 0) (writeRefusals rate r) found judged-so sound)
+  stands : found ≡ Sound → verdictOf (writeRefusals rate r) ≡ Sound
+  stands sound = sym judged-so ∙ sound
 
   refused : (n : ℕ) → found ≡ Unsound n → Unpackable n ≡ packedOf rate r
   unfolding packedOf
@@ -48,7 +46,7 @@ enum-told : tie.Need-enum-told
 enum-told c = search needs
 
 packed-requires : tie.Need-packed-requires
-packed-requires c κs = search fits
+packed-requires c κs = search stands
 
 returns : tie.Need-returns
 returns c = search refused

@@ -8,8 +8,9 @@ use native.Mathlib.Omega.{arith}
 use lib.Dec.{eqb}
 use lib.ListN.{length, getD}
 use borrow.Author.Needs.{needs}
-use Rattle.vitc.specs.Line.{isOne, onesAt}
+use Rattle.vitc.specs.Line.{onesAt}
 use Rattle.vitc.specs.Loops.{Striding}
+use Rattle.vitc.proofs.Stride.{oneIn}
 use Rattle.vitc.proofs.Turns.{stride-begins, stride-turns, stride-ends}
 use Rattle.vitc.proofs.parity.parity.Statement.{statement}
 use Rattle.vitc.proofs.parity.parity.Tie as tie
@@ -19,14 +20,14 @@ begun place run = stride-begins (place % 8) run (omega arith)
 
 module _
     (remainder : ℕ) (run : List ℕ) (odd at one : ℕ) (s : Striding remainder run odd at) (more : at < length run)
-    (seen : one ≡ isOne (getD run at 0)) where
+    (seen : one ≡ oneIn (getD run at 0)) where
   turned : Striding remainder run ((odd + one) % 2) (at + 8)
   turned = rw seen (stride-turns remainder run odd at s more)
 
   last : length run - at ≤ 8 → (odd + one) % 2 ≡ onesAt remainder run % 2
   last few = stride-ends remainder run ((odd + one) % 2) (at + 8) turned (omega arith)
 
-one-small : (element : ℕ) → isOne element ≤ 1
+one-small : (element : ℕ) → oneIn element ≤ 1
 one-small element = go (eqb element 1)
   where
     go : (t : Bool) → cond t 1 0 ≤ 1

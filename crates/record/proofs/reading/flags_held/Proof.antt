@@ -1,4 +1,4 @@
--- `record::reading::flags_in` meets its contract: each flag stands where the row of the rate says.
+-- `record::reading::flags_held` meets its contract: each flag stands where the row of the rate says.
 -- Assumes nothing.
 use mathlib.Core.Path.{_≡_, refl, _∙_}
 use Prim.Native.Nat.{ℕ}
@@ -9,9 +9,9 @@ use Rattle.clock.specs.declared.types.Rate.the-variants.{At24, At25, At30}
 use Rattle.clock.specs.Rates.{byRate}
 use Rattle.record.specs.declared.types.Flags.{Flags}
 use Rattle.record.specs.Flags.{flagAt, places}
-use Rattle.record.specs.Record.{flagsIn}
-use Rattle.record.proofs.reading.flags_in.Statement.{statement}
-use Rattle.record.proofs.reading.flags_in.Tie as tie
+use Rattle.record.specs.Record.{flagsHeld}
+use Rattle.record.proofs.reading.flags_held.Statement.{statement}
+use Rattle.record.proofs.reading.flags_held.Tie as tie
 
 flagsOf : Flag → Flag → Flag → Flag → Flag → Flag → Flags
 flagsOf drop colour mark bgf0 bgf1 bgf2 = record { drop = drop; colour = colour; mark = mark; bgf0 = bgf0; bgf1 = bgf1; bgf2 = bgf2 }
@@ -19,7 +19,7 @@ flagsOf drop colour mark bgf0 bgf1 bgf2 = record { drop = drop; colour = colour;
 by-row :
     (rate : Rate) (info : ℕ) → let at : ℕ → Flag = λ place. flagAt place info in
     flagsOf (at 10) (at 11) (byRate rate (at 27) (at 59) (at 27)) (byRate rate (at 43) (at 27) (at 43)) (at 58) (byRate rate (at 59) (at 43) (at 59))
-    ≡ flagsIn (places rate) info
+    ≡ flagsHeld (places rate) info
 unfolding flagsOf
 by-row At24 info = refl
 by-row At25 info = refl
@@ -30,7 +30,7 @@ module _ (rate : Rate) (info : ℕ) (at27 at43 at59 : Flag) where
       at27 ≡ flagAt 27 info → at43 ≡ flagAt 43 info → at59 ≡ flagAt 59 info
       → (drop colour mark bgf0 bgf1 bgf2 : Flag) → drop ≡ flagAt 10 info → colour ≡ flagAt 11 info
       → mark ≡ byRate rate at27 at59 at27 → bgf0 ≡ byRate rate at43 at27 at43 → bgf1 ≡ flagAt 58 info → bgf2 ≡ byRate rate at59 at43 at59
-      → record { drop = drop; colour = colour; mark = mark; bgf0 = bgf0; bgf1 = bgf1; bgf2 = bgf2 } ≡ flagsIn (places rate) info
+      → record { drop = drop; colour = colour; mark = mark; bgf0 = bgf0; bgf1 = bgf1; bgf2 = bgf2 } ≡ flagsHeld (places rate) info
   unfolding flagsOf
   whole a b c drop colour mark bgf0 bgf1 bgf2 d e f g h k =
       let at : ℕ → Flag = λ place. flagAt place info in
@@ -69,8 +69,8 @@ by-25-requires-3 c κs = search needs
 returns : tie.Need-returns
 returns c = search whole
 
-pub flags-in-spec : {M : Type 1} → statement M
-flags-in-spec =
+pub flags-held-spec : {M : Type 1} → statement M
+flags-held-spec =
     tie.close
     (tie.spec
     flag-requires
