@@ -1,12 +1,13 @@
 -- `ltc::reading::read` meets its contract: each test is a row of the list, and a word that passes them is heard as its information bits.
 -- Assumes nothing.
+use native.Mathlib.Omega.{arith}
 use borrow.Author.Needs.{needs}
 use Rattle.ltc.proofs.ReadTests.{wrong-size, no-mode, no-bit-low, no-bit-high, another-sync, heard}
 use Rattle.ltc.proofs.reading.read.Statement.{statement}
 use Rattle.ltc.proofs.reading.read.Tie as tie
 
 returns : tie.Need-returns
-returns c = search wrong-size
+returns c = wrong-size _ _ (λ e. omega arith)
 
 is-unknown-requires : tie.Need-is-unknown-requires
 is-unknown-requires c κs = search needs
