@@ -79,7 +79,7 @@ module _ (mode : ℕ) (r : Record) where
   pub read-of-written : Acceptable mode r → readOf mode (wordOf mode r) ≡ Holds r
   unfolding wordOf
   read-of-written ok =
-      let fits = writable (rateAt mode) r (ok .0 .1) in
+      let fits = writable (rateAt mode) r (clear-from outside-the-clock (withMode mode (writeRefusalsIn mode r)) (ok .0)) in
       let bit = polarity mode r fits (ok .1) in
       let set = marked (bit .0) r in
       let low : correctedOf mode r < 2 ^ 64 = rw (bit .1) (info-below (rateAt mode) set fits) in

@@ -6,9 +6,9 @@ use mathlib.Core.List.{List}
 use Prim.Native.Nat.{ℕ, _+_, _-_, _^_, _<_}
 use lib.ListN.{length}
 use borrow.Rule.Slice.PartMut.{putMid}
-use Rattle.refusals.specs.Table.{unknown-mode, mark-set, no-room}
+use Rattle.refusals.specs.Table.{unknown-mode, outside-the-clock, mark-set, no-room}
 use Rattle.refusals.proofs.Answered.{Clear}
-use Rattle.refusals.proofs.ByNumber.{rowsBefore, clear-whole}
+use Rattle.refusals.proofs.ByNumber.{rowsBefore, clear-from, clear-whole}
 use Rattle.runs.specs.declared.types.Written.{Written}
 use Rattle.runs.specs.declared.types.Written.the-variants.{Done, Refused as Unwritten}
 use Rattle.runs.specs.Run.{noRoom}
@@ -63,7 +63,7 @@ module _ (mode start : ℕ) (r : Record) (run : List ℕ) (rated : Rated) (named
 
       module _ (t : yes ≡ false) where
         fits : Writable (r .address) (r .groups)
-        fits = writable (rateAt mode) r (packed .0 .1)
+        fits = writable (rateAt mode) r (clear-from outside-the-clock (withMode mode (writeRefusalsIn mode r)) (packed .0))
 
         unset : r .flags .mark ≡ No
         unset = is-no (r .flags .mark) (sym asked ∙ t)
