@@ -30,21 +30,25 @@ use Rattle.demands.specs.Records.{Acceptable}
 
 -- "mode above 2": the modes that are known are 0, 1 and 2
 pub known-exactly : (mode : ℕ) → (unknown mode ≡ false) ↔ (mode ≤ 2)
+unfolding unknown rateAt
 known-exactly mode = (λ e. let few = leb-false 3 mode e in omega arith, λ low. lt-leb 3 mode (omega arith))
 
 pub known : {mode : ℕ} {drop : Flag} → CountingMode mode drop → unknown mode ≡ false
+unfolding unknown rateAt
 known at24 = refl
 known at25 = refl
 known at30 = refl
 known at30drop = refl
 
 pub allowed : {mode : ℕ} {drop : Flag} → CountingMode mode drop → (isYes drop && not (mayDrop (rateAt mode))) ≡ false
+unfolding unknown rateAt
 allowed at24 = refl
 allowed at25 = refl
 allowed at30 = refl
 allowed at30drop = refl
 
 counting : (mode : ℕ) (drop : Flag) → unknown mode ≡ false → (isYes drop && not (mayDrop (rateAt mode))) ≡ false → CountingMode mode drop
+unfolding unknown rateAt
 counting zero No low drops = at24
 counting zero Yes low drops = absurd (true≢false drops)
 counting (suc zero) No low drops = at25
@@ -55,11 +59,13 @@ counting (suc (suc (suc mode))) drop low drops = let few = leb-false 3 (suc (suc
 
 -- the colour bit is unused in mode 0
 colour-of : (mode : ℕ) (colour : Flag) → unusedColour (rateAt mode) colour ≡ false → mode ≡ 0 → colour ≡ No
+unfolding unknown rateAt
 colour-of zero No unused none = refl
 colour-of zero Yes unused none = absurd (true≢false unused)
 colour-of (suc mode) colour unused none = absurd (omega arith)
 
 colour-unused : (mode : ℕ) (colour : Flag) → (mode ≡ 0 → colour ≡ No) → unusedColour (rateAt mode) colour ≡ false
+unfolding unknown rateAt
 colour-unused zero colour colourless = rw (colourless refl)
 colour-unused (suc zero) colour colourless = refl
 colour-unused (suc (suc zero)) colour colourless = refl

@@ -7,6 +7,7 @@ use Rattle.clock.specs.Counting.{countOf, distanceOf}
 use Rattle.clock.specs.Calls.{numberOf, addressOf, fieldsOf, spanOf}
 use Rattle.record.specs.Layout.{join, layout}
 use Rattle.record.specs.Record.{fieldsOf as fieldsOfRecord, infoOf}
+use Rattle.modes.specs.Modes.{unknown, rateAt}
 use Rattle.modes.specs.Calls.{numberIn, addressIn, fieldsIn, spanIn}
 use Rattle.ltc.specs.Word.{syncWord, oddZeros, wordOf}
 use Rattle.ltc.specs.Calls as ltc
@@ -17,5 +18,5 @@ use Rattle.atc.specs.Calls as atc
 use Rattle.demands.specs.Bars.{bars, onesAmong, packed, Rehearsed}
 
 pub rehearsed : Rehearsed bars
-unfolding bars onesAmong packed numberIn addressIn fieldsIn spanIn numberOf addressOf fieldsOf spanOf value toBits howMany placed join layout fieldsOfRecord infoOf syncWord oddZeros wordOf each onesFrom groups payload crcOf lineWith lineOf dataWords dataWord sum9 header checksumOf frontOf packetWith countOf distanceOf ltc.runOf ltc.writtenRows atc.runOf
+unfolding bars onesAmong packed numberIn addressIn fieldsIn spanIn numberOf addressOf fieldsOf spanOf value toBits howMany placed join layout fieldsOfRecord infoOf syncWord oddZeros wordOf each onesFrom groups payload crcOf lineWith lineOf dataWords dataWord sum9 header checksumOf frontOf packetWith countOf distanceOf ltc.runOf ltc.writtenRows atc.runOf unknown rateAt
 rehearsed = refl

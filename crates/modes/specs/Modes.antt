@@ -17,7 +17,7 @@ abbrev pub table : List Rate
 table = At24 ∷ At25 ∷ At30 ∷ []
 
 -- "mode above 2": past the last row
-abbrev pub unknown : ℕ → Bool
+unfoldable pub unknown : ℕ → Bool
 unknown mode = leb (length table) mode
 
 -- the rate in row n; what is said past the last row no call gives out, since 2 is given first
@@ -27,7 +27,7 @@ rowOf (rate ∷ rates) zero = rate
 rowOf (rate ∷ rates) (suc n) = rowOf rates n
 
 -- the rate of a mode that is known
-abbrev pub rateAt : ℕ → Rate
+unfoldable pub rateAt : ℕ → Rate
 rateAt = rowOf table
 
 -- 2 comes before whatever the rate refuses

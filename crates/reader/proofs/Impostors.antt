@@ -60,7 +60,7 @@ frameIn (Refused n) = 0
 
 -- with nothing for each report, a number, or one fixed record: one that never reports, that refuses each word, that reports one fixed address
 pub no-impostor : (other : Heard) → Follows (relaying (always other)) → ⊥
-unfolding frameIn midnight seven recordOf
+unfolding frameIn midnight seven recordOf unknown
 no-impostor other follows =
     let one = honest (always other) follows 2 refl midnight in
     let another = honest (always other) follows 2 refl seven in

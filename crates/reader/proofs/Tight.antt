@@ -12,6 +12,7 @@ use Rattle.bits.specs.Bits.{value, toBits, someAbove, howMany}
 use Rattle.runs.specs.Run.{same}
 use Rattle.clock.specs.declared.types.Flag.the-variants.{No}
 use Rattle.record.specs.Record.{recordOf, marked}
+use Rattle.modes.specs.Modes.{unknown, rateAt}
 use Rattle.modes.specs.Calls.{recordIn}
 use Rattle.ltc.specs.Word.{syncWord, wordWith, oddZeros}
 use Rattle.ltc.specs.Calls.{readOf}
@@ -26,12 +27,12 @@ use Rattle.reader.specs.Following.{CodeWord, endToEnd, eachAsItself, set
 
 -- 00:00:00:00 at 30 frames, groups and flags 0: the polarity bit is set
 unfoldable pub midnight : CodeWord 2
-unfolding readOf recordOf oddZeros howMany toBits value someAbove same syncWord
+unfolding readOf recordOf oddZeros howMany toBits value someAbove same syncWord unknown rateAt
 midnight = record { bits = wordWith (2 ^ 27); says = marked No (recordIn 2 (2 ^ 27)); accepted = refl }
 
 -- 00:00:00:07 and group 1 set to 1: it begins with 1, 1, 1, 0, 1, as the sync word ends
 unfoldable pub seven : CodeWord 2
-unfolding readOf recordOf oddZeros howMany toBits value someAbove same syncWord
+unfolding readOf recordOf oddZeros howMany toBits value someAbove same syncWord unknown rateAt
 seven = record { bits = wordWith (2 ^ 27 + 2 ^ 4 + 7); says = marked No (recordIn 2 (2 ^ 27 + 2 ^ 4 + 7)); accepted = refl }
 
 brokenOff : List ℕ
@@ -41,11 +42,11 @@ waiting : Reader
 waiting = fed (freshOf 2) brokenOff
 
 waiting-reached : Reached waiting
-unfolding waiting brokenOff fed steppedOf readerWith unreached toBits value howMany syncWord
+unfolding waiting brokenOff fed steppedOf readerWith unreached toBits value howMany syncWord unknown rateAt
 waiting-reached = record { elements = brokenOff; brought = refl }
 
 false-report : getD (answers waiting (endToEnd (seven ∷ []))) 4 Nothing ≡ Accepted (midnight .says)
-unfolding waiting brokenOff fed answers endToEnd steppedOf heardIn readerWith unreached toBits value howMany syncWord seven midnight readOf recordOf oddZeros someAbove same
+unfolding waiting brokenOff fed answers endToEnd steppedOf heardIn readerWith unreached toBits value howMany syncWord seven midnight readOf recordOf oddZeros someAbove same unknown rateAt
 false-report = refl
 
 same-later : (bits place : ℕ) (xs ys : List Heard) → bits ≤ place → drop bits xs ≡ drop bits ys → getD xs place Nothing ≡ getD ys place Nothing
@@ -58,7 +59,7 @@ same-later bits place xs ys low same =
 
 -- so after fewer bits than five, the demand could not be met
 pub five-is-tight : (bits : ℕ) → bits < settled → FollowsAfter bits answers → ⊥
-unfolding eachAsItself waiting brokenOff fed steppedOf readerWith unreached toBits value howMany syncWord
+unfolding eachAsItself waiting brokenOff fed steppedOf readerWith unreached toBits value howMany syncWord unknown
 five-is-tight bits few follows =
     let asked = follows waiting waiting-reached refl (seven ∷ []) in
     true≢false

@@ -5,6 +5,7 @@ use mathlib.Core.List.{_++_}
 use Rattle.bits.specs.Bits.{value, toBits, someAbove, howMany}
 use Rattle.runs.specs.Run.{same}
 use Rattle.record.specs.Record.{recordOf}
+use Rattle.modes.specs.Modes.{unknown, rateAt}
 use Rattle.ltc.specs.Word.{syncWord, oddZeros}
 use Rattle.ltc.specs.Calls.{readOf}
 use Rattle.reader.specs.Held.{readerWith, unreached}
@@ -16,5 +17,5 @@ use Rattle.scribe.specs.Told.{freshScribe, linesOf, textOf, scribeAfter}
 use Rattle.readout.specs.Sample.{theWord, theTwoLines}
 
 pub two-lines : textOf freshScribe theWord ++ endLineOf (scribeAfter freshScribe theWord .bits) ≡ theTwoLines
-unfolding theWord theTwoLines value toBits someAbove howMany same syncWord oddZeros recordOf readOf readerWith unreached heardIn steppedOf fed answers decimalWithin hexDigit addressText groupsText acceptedText lineOf endLineOf bitsIn goesOn linesOf scribeAfter
+unfolding theWord theTwoLines value toBits someAbove howMany same syncWord oddZeros recordOf readOf readerWith unreached heardIn steppedOf fed answers decimalWithin hexDigit addressText groupsText acceptedText lineOf endLineOf bitsIn goesOn linesOf scribeAfter unknown rateAt
 two-lines = refl

@@ -11,6 +11,7 @@ use borrow.Author.Tests.{le-ltb, ltb-true}
 use Rattle.bits.specs.Bits.{toBits, howMany}
 use Rattle.runs.specs.Run.{placed}
 use Rattle.runs.proofs.Same.{both-true}
+use Rattle.modes.specs.Modes.{unknown}
 use Rattle.reader.specs.Held.{unreached}
 use Rattle.reader.specs.Feeding.{Passing}
 use Rattle.reader.proofs.Passing.{fed-passing}
@@ -22,7 +23,7 @@ use Rattle.scribe.specs.Told.{counted, textOf, leftAfter, scribeAfter, t
 
 -- the reader of a scribe that pieces of characters bring about is sound
 pub brought-sound : {s : Scribe} → Brought s → Passing (s .reader)
-unfolding scribeAfter unreached toBits howMany
+unfolding scribeAfter unreached toBits howMany unknown
 brought-sound fresh = record { known = refl; passes = refl }
 brought-sound (piece {scribe = s} characters b) = fed-passing (bitsIn (counted s characters)) (s .reader) (brought-sound b)
 
