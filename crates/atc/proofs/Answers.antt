@@ -4,7 +4,10 @@ use Prim.Native.Nat.{ℕ}
 use mathlib.Core.Path.{_≡_, refl, sym, _∙_}
 use mathlib.Core.Bool.{true, false}
 use mathlib.Core.List.{List}
-use Rattle.refusals.specs.Table.{unknown-mode, theOrder}
+use lib.Dec.{eqb}
+use lib.ListN.{length}
+use borrow.Author.Tests.{eqb-true, not-false}
+use Rattle.refusals.specs.Table.{wrong-length, unknown-mode, theOrder}
 use Rattle.refusals.specs.Answer.{answer, inOrder}
 use Rattle.refusals.proofs.Answered.{Clear, carried, otherwise-accepted}
 use Rattle.refusals.proofs.ByNumber.{clear-at}
@@ -15,7 +18,7 @@ use Rattle.modes.specs.Modes.{unknown, withMode}
 use Rattle.modes.specs.Calls.{recordIn, bitsRefusalsIn, unpackedIn}
 use Rattle.atc.specs.declared.types.Packet.{Packet}
 use Rattle.atc.specs.declared.types.Packet.the-variants.{Holds, Refused as Unread}
-use Rattle.atc.specs.Words.{infoIn}
+use Rattle.words.specs.Words.{infoIn}
 use Rattle.atc.specs.Packet.{dataIn, typeIn, secondIn, unknownType}
 use Rattle.atc.specs.Calls.{formRefusals, contentRefusals, readRefusals, contentsWith, readOf, writtenRows}
 
@@ -24,6 +27,9 @@ packetAs type second (Held r) = Holds (contentsWith r type second)
 packetAs type second (Unheld n) = Unread n
 
 module _ (mode : ℕ) (words : List ℕ) (clear : Clear (formRefusals mode words)) where
+  pub size : length words ≡ 23
+  size = eqb-true (length words) 23 (not-false (eqb (length words) 23) (clear-at wrong-length (formRefusals mode words) clear))
+
   -- the type is looked at next
   pub past-the-form :
       readOf mode words

@@ -10,7 +10,7 @@ use Rattle.refusals.specs.declared.types.Verdict.the-variants.{Sound, Refused a
 use Rattle.refusals.specs.Answer.{verdictOf}
 use Rattle.bits.specs.Bits.{someAbove}
 use Rattle.modes.specs.Modes.{unknown}
-use Rattle.atc.specs.Words.{wrongWord, lowSet, someWord, withOpposite, sum9}
+use Rattle.words.specs.Words.{wrongWord, lowSet, someWord, withOpposite, sum9}
 use Rattle.atc.specs.Packet.{isHeaded, checksumOf}
 use Rattle.atc.specs.Calls.{formRefusals}
 

@@ -1,7 +1,7 @@
 -- The 23 words from their pieces: header, data words, checksum.
 -- Assumes nothing.
-use Prim.Native.Nat.{ℕ, suc, _+_, _*_, _%_, _/_, _<_}
-use mathlib.Core.Path.{_≡_, refl, sym, ap, _∙_}
+use Prim.Native.Nat.{ℕ, _+_, _*_, _%_, _<_}
+use mathlib.Core.Path.{_≡_, sym, ap, _∙_}
 use mathlib.Core.List.{List, [], _∷_, _++_}
 use native.Mathlib.Omega.{arith}
 use lib.ListN.{length, take, drop, set, length-append, length-drop, drop-of-length-le}
@@ -12,14 +12,9 @@ use Rattle.bits.proofs.Bit.{length-toBits}
 use Rattle.bits.proofs.Joined.{toBits-append}
 use Rattle.runs.specs.Run.{placed}
 use Rattle.runs.proofs.Parts.{put-is-placed}
-use Rattle.atc.specs.Words.{withOpposite, dataWords, sum9}
+use Rattle.words.specs.Words.{withOpposite, dataWords, sum9}
+use Rattle.words.proofs.Lists.{length-dataWords}
 use Rattle.atc.specs.Packet.{header, checksumOf, carriedOf, frontOf, packetWith}
-
--- a data word for each bit
-pub length-dataWords : (bits : List ℕ) (info : ℕ) → length (dataWords bits info) ≡ length bits
-unfolding dataWords
-length-dataWords [] info = refl
-length-dataWords (bit ∷ bits) info = ap suc (length-dataWords bits (info / 16))
 
 -- sixteen bits are the type's eight and the second byte's eight
 pub carried-bits : (type second : ℕ) → type < 256 → toBits 16 (type + 256 * second) ≡ carriedOf type second

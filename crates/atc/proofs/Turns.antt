@@ -1,54 +1,17 @@
 -- The loops begin, go on and end.
 -- Assumes nothing.
-use Prim.Native.Nat.{ℕ, suc, _+_, _-_, _*_, _/_, _%_, _^_, _≤_, _<_}
-use mathlib.Core.Path.{_≡_, refl, sym, ap, _∙_}
-use mathlib.Core.Bool.{Bool, true, false, _||_}
-use mathlib.Core.List.{List, [], _∷_, append-nil, append-assoc}
-use native.Mathlib.Nat.{sub-zero, pow-zero, pow-suc, pow-le-pow-right, lt-of-lt-of-le, add-comm, mul-comm}
-use native.Mathlib.Numerals.{add-one}
+use Prim.Native.Nat.{ℕ, suc, _+_, _-_, _*_, _^_, _≤_, _<_}
+use mathlib.Core.Path.{_≡_}
+use mathlib.Core.List.{List, _∷_}
+use native.Mathlib.Nat.{pow-le-pow-right, lt-of-lt-of-le}
 use native.Mathlib.Omega.{arith}
-use lib.Arith.{digits-lt}
-use lib.Dec.{ltb}
-use lib.ListN.{length, getD, set, take, drop, length-drop, length-set, drop-of-length-le}
-use lib.Seq.{drop-cons, drop-length, take-suc-set, take-all}
-use Rattle.bits.specs.Bits.{toBits, someAbove}
-use Rattle.atc.specs.Words.{dataWord, someWord, gathered, sum9, dataWords}
-use Rattle.atc.specs.Loops.{Looking, Gathering, Summing, Storing}
-
--- an element above a limit is a word that meets a test
-pub above-is-some : (limit : ℕ) (words : List ℕ) → someAbove limit words ≡ someWord (ltb limit) words
-unfolding someAbove someWord
-above-is-some limit [] = refl
-above-is-some limit (word ∷ words) = ap (λ (t : Bool). ltb limit word || t) (above-is-some limit words)
-
-module _ (test : ℕ → Bool) (words : List ℕ) where
-  pub look-begins : Looking test words 0
-  look-begins = record { within = omega arith; ahead = refl }
-
-  module _ (i : ℕ) (g : Looking test words i) where
-    here : i < length words → (test (getD words i 0) || someWord test (drop (suc i) words)) ≡ someWord test words
-    unfolding someWord
-    here h = rw (drop-cons words i 0 h) at (g .ahead)
-
-    pub look-turns : i < length words → test (getD words i 0) ≡ false → Looking test words (i + 1)
-    look-turns h miss = record { within = omega arith; ahead = rw (add-one i) (rw miss at (here h)) }
-
-    pub look-found : i < length words → test (getD words i 0) ≡ true → true ≡ someWord test words
-    look-found h hit = rw hit at (here h)
-
-    pub look-ends : length words ≤ i → false ≡ someWord test words
-    unfolding someWord
-    look-ends h = rw (drop-of-length-le words h) at (g .ahead)
+use lib.ListN.{length, getD, drop, length-drop}
+use lib.Seq.{drop-cons, drop-length}
+use Rattle.words.specs.Words.{gathered}
+use Rattle.words.proofs.Lists.{gathered-below}
+use Rattle.atc.specs.Loops.{Gathering}
 
 module _ (part : ℕ → ℕ) (base : ℕ) where
-  -- digits below the base make a number below its power
-  pub gathered-below : ((word : ℕ) → part word < base) → (words : List ℕ) → gathered part base words < base ^ length words
-  unfolding gathered
-  gathered-below low [] = omega (arith, pow-zero base)
-  gathered-below low (word ∷ words) =
-      rw (add-comm (part word) (base * gathered part base words), mul-comm base (gathered part base words), pow-suc base (length words))
-      (digits-lt (gathered-below low words) (low word))
-
   module _ (words : List ℕ) where
     pub gather-begins : Gathering part base words 0 (length words)
     unfolding gathered
@@ -59,7 +22,7 @@ module _ (part : ℕ → ℕ) (base : ℕ) where
       pub gather-room : (most : ℕ) → 0 < base → ((word : ℕ) → part word < base) → 0 < i → length words ≤ suc most → number < base ^ most
       gather-room most some low more short =
           let few : length words - i ≤ most = omega arith in
-          let below : number < base ^ (length words - i) = rw (g .so-far, ← length-drop i words) (gathered-below low (drop i words)) in
+          let below : number < base ^ (length words - i) = rw (g .so-far, ← length-drop i words) (gathered-below part base low (drop i words)) in
           lt-of-lt-of-le below (pow-le-pow-right some few)
 
       pub gather-turns : 0 < i → Gathering part base words (part (getD words (i - 1) 0) + base * number) (i - 1)
@@ -72,42 +35,3 @@ module _ (part : ℕ → ℕ) (base : ℕ) where
 
       pub gather-ends : i ≤ 0 → number ≡ gathered part base words
       gather-ends none = let zero : i ≡ 0 = omega arith in rw zero at (g .so-far)
-
-module _ (words : List ℕ) where
-  pub sum-begins : Summing words 0 0
-  sum-begins = record { within = omega arith; small = omega arith; so-far = omega arith }
-
-  pub sum-turns : (sum i : ℕ) → Summing words sum i → i < length words → Summing words ((sum + getD words i 0 % 512) % 512) (i + 1)
-  unfolding sum9
-  sum-turns sum i s h =
-      let next : sum9 (drop i words) ≡ getD words i 0 % 512 + sum9 (drop (suc i) words) = rw (drop-cons words i 0 h) in
-      record { within = omega arith; small = omega arith; so-far = rw (add-one i) (omega (arith, s .so-far)) }
-
-  pub sum-ends : (sum i : ℕ) → Summing words sum i → length words ≤ i → sum ≡ sum9 words % 512
-  unfolding sum9
-  sum-ends sum i s h = let all = rw (drop-of-length-le words h) at (s .so-far) in omega (arith, all, s .small)
-
-module _ (info carried size : ℕ) where
-  pub store-begins : (run : List ℕ) → length run ≡ size → Storing info carried size run info carried 0
-  store-begins run long = record { within = omega arith; long = long; so-far = rw sub-zero }
-
-  pub store-turns : (run : List ℕ) (left bits i word : ℕ) → Storing info carried size run left bits i → i < size
-      → word ≡ dataWord (left % 16) (bits % 2) → Storing info carried size (set run i word) (left / 16) (bits / 2) (i + 1)
-  unfolding toBits dataWords
-  store-turns run left bits i word s h e =
-      let more : size - i ≡ suc (size - suc i) = omega arith in
-      let within : i < length run = omega (arith, s .long) in
-      record {
-        within = omega arith;
-        long = length-set run i word ∙ s .long;
-        so-far =
-            rw (add-one i, take-suc-set run i word within, e)
-            (append-assoc (take i run) (dataWord (left % 16) (bits % 2) ∷ []) (dataWords (toBits (size - suc i) (bits / 2)) (left / 16)) ∙ (rw more at (s .so-far)));
-      }
-
-  pub store-ends : (run : List ℕ) (left bits : ℕ) → Storing info carried size run left bits size → run ≡ dataWords (toBits size carried) info
-  unfolding toBits dataWords
-  store-ends run left bits s =
-      let whole : take size run ≡ run = take-all size run (omega (arith, s .long)) in
-      let none : size - size ≡ 0 = omega arith in
-      sym (append-nil run) ∙ rw (whole, none) at (s .so-far)

@@ -16,7 +16,7 @@ use Rattle.modes.specs.Calls.{recordIn, informationIn, bitsRefusalsIn, writeRef
 use Rattle.atc.specs.declared.types.Contents.{Contents}
 use Rattle.atc.specs.declared.types.Packet.{Packet}
 use Rattle.atc.specs.declared.types.Packet.the-variants.{Holds, Refused as Unread}
-use Rattle.atc.specs.Words.{wrongWord, lowSet, someWord, infoIn}
+use Rattle.words.specs.Words.{wrongWord, lowSet, someWord, infoIn}
 use Rattle.atc.specs.Packet.{isHeaded, checksumOf, packetWith, dataIn, typeIn, secondIn, unknownType}
 
 -- the form of a packet, whatever it carries: 1 not exactly 23 elements; 2 a mode that is unknown; 3 an element above 1,023; 4 one of the first six

@@ -7,7 +7,7 @@ use lib.Dec.{ltb}
 use lib.ListN.{take, drop}
 use Rattle.bits.specs.Bits.{toBits}
 use Rattle.runs.specs.Run.{same}
-use Rattle.atc.specs.Words.{withOpposite, dataWords, byteIn, sum9}
+use Rattle.words.specs.Words.{withOpposite, dataWords, byteIn, sum9}
 
 unfoldable pub header : List ℕ
 header = 0x000 ∷ 0x3FF ∷ 0x3FF ∷ 0x260 ∷ 0x260 ∷ 0x110 ∷ []

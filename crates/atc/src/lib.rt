@@ -1,14 +1,12 @@
 // The ancillary packet (ATC): 23 words of ten bits, and the record, payload type and second byte that they carry.
 //
 // types      what a packet carries, and what a read answers
-// words      one word of a packet, and the payload types
-// sweeps     loops over the words of a packet: tests, sums and what they carry together
+// payload    the payload types
 // reading    from 23 words to record, type and second byte
 // writing    from record, type and second byte to 23 words in the middle of a lent run
+mod payload;
 mod reading;
-mod sweeps;
 mod types;
-mod words;
 mod writing;
 
 pub use reading::read;

@@ -3,16 +3,12 @@ ghost use mathlib.Core.Path.{_≡_};
 ghost use Prim.Native.Nat.{_≤_};
 ghost use lib.ListN.{length};
 ghost use Rattle.refusals.specs.Answer.{verdictOf};
-ghost use Rattle.atc.specs.Words.{infoIn, byteIn};
+ghost use Rattle.words.specs.Words.{infoIn, byteIn};
 ghost use Rattle.atc.specs.Packet.{isHeaded};
 ghost use Rattle.atc.specs.Calls.{formRefusals, readOf};
-use crate::sweeps::checksum;
-use crate::sweeps::has_high_word;
-use crate::sweeps::has_low_bits;
-use crate::sweeps::has_wrong_word;
+use crate::payload::is_unknown_type;
 use crate::types::Contents;
 use crate::types::Packet;
-use crate::words::is_unknown_type;
 use record::Unpacked;
 use refusals::Verdict;
 
@@ -37,19 +33,19 @@ fn judge(mode: u8, words: &[u16]) -> Verdict
     if modes::is_unknown(mode) {
         return Verdict::Refused(refusals::UNKNOWN_MODE);
     }
-    if has_high_word(words) {
+    if words::has_high_word(words) {
         return Verdict::Refused(refusals::ELEMENT_TOO_HIGH);
     }
     if !is_headed(words) {
         return Verdict::Refused(refusals::WRONG_SYNC);
     }
-    if has_wrong_word(&words[6..22]) {
+    if words::has_wrong_word(&words[6..22]) {
         return Verdict::Refused(refusals::WRONG_CHECK);
     }
-    if words[22] != checksum(&words[3..22]) {
+    if words[22] != words::checksum(&words[3..22]) {
         return Verdict::Refused(refusals::WRONG_CHECK);
     }
-    if has_low_bits(&words[6..22]) {
+    if words::has_low_bits(&words[6..22]) {
         return Verdict::Refused(refusals::LOW_BITS_SET);
     }
     Verdict::Sound

@@ -1,13 +1,9 @@
 // From record, type and second byte to 23 words.
 ghost use mathlib.Core.Path.{_≡_};
 ghost use lib.ListN.{length};
-ghost use Rattle.bits.specs.Bits.{toBits};
-ghost use Rattle.atc.specs.Words.{dataWords};
 ghost use Rattle.atc.specs.Packet.{header, packetWith};
 ghost use Rattle.atc.specs.Calls.{writtenOf, runOf};
-use crate::sweeps::checksum;
-use crate::words::data_word;
-use crate::words::is_unknown_type;
+use crate::payload::is_unknown_type;
 use record::Packed;
 use record::Record;
 use runs::Written;
@@ -25,23 +21,6 @@ fn store_header(run: &mut [u16])
     run[5] = 0x110;
 }
 
-// A data word to each element: the next four information bits, and the next bit of what b3 carries.
-fn store_data(info: u64, carried: u16, run: &mut [u16])
-    ensures { λ _. ⌜ now (run .exit) ≡ dataWords (toBits (length (now (run .entry))) carried) info ⌝ }
-{
-    let mut left = info;
-    let mut bits = carried;
-    let mut i = 0;
-    while i < run.len() {
-        let nibble = (left % 16) as u8;
-        let bit = (bits % 2) as u8;
-        run[i] = data_word(nibble, bit);
-        left = left / 16;
-        bits = bits / 2;
-        i += 1;
-    }
-}
-
 // The whole packet into a run of its own length.
 fn store(info: u64, payload_type: u8, second: u8, run: &mut [u16])
     requires { ⌜ length (now run) ≡ 23 ⌝ }
@@ -49,8 +28,8 @@ fn store(info: u64, payload_type: u8, second: u8, run: &mut [u16])
 {
     store_header(&mut run[0..6]);
     let carried = payload_type as u16 + 256 * second as u16;
-    store_data(info, carried, &mut run[6..22]);
-    let sum = checksum(&run[3..22]);
+    words::store_data(info, carried, &mut run[6..22]);
+    let sum = words::checksum(&run[3..22]);
     run[22] = sum;
 }
 

@@ -4,11 +4,12 @@ use mathlib.Core.Path.{_≡_, sym}
 use mathlib.Core.Bool.{Bool, true, false}
 use Prim.Native.Nat.{ℕ, _-_, _*_, _/_, _≤_, _<_}
 use native.Mathlib.Nat.{sub-zero}
-use Rattle.clock.specs.declared.types.Rate.{Rate}
-use Rattle.clock.specs.declared.types.Address.{Address}
-use Rattle.clock.specs.Rates.{framesInSecond}
+use Rattle.rates.specs.declared.types.Rate.{Rate}
+use Rattle.rates.specs.declared.types.Address.{Address}
+use Rattle.rates.specs.Rates.{framesInSecond}
 use Rattle.clock.specs.Counting.{minutesOf, placeOf, countOf}
-use Rattle.clock.proofs.Sizes.{Bytes, some-rate, rate-small, place-small, place-large}
+use Rattle.rates.proofs.Sizes.{some-rate, rate-small}
+use Rattle.clock.proofs.Sizes.{Bytes, place-small, place-large}
 
 module _ (rate : Rate) (fps : ℕ) (a : Address) (pace : fps ≡ framesInSecond rate) where
   pub large : 60 * minutesOf a ≤ placeOf fps a

@@ -1,12 +1,10 @@
--- Numbers and addresses in closed form, the distance and the sum. What a reader has to believe is the clock; that these are the
+-- Numbers and addresses in closed form. What a reader has to believe is the clock; that these are the
 -- clock's is proved, once over the rate and drop, in proofs/.
 -- Assumes nothing.
-use Prim.Native.Nat.{ℕ, suc, _+_, _-_, _*_, _/_, _%_}
+use Prim.Native.Nat.{ℕ, _+_, _-_, _*_, _/_, _%_}
 use mathlib.Core.Bool.{Bool, cond}
-use lib.Dec.{ltb, leb}
-use lib.IntN.{ℤ, pos, negsuc, subℕ}
-use Rattle.clock.specs.declared.types.Address.{Address}
-use Rattle.clock.specs.Clock.{showing}
+use Rattle.rates.specs.declared.types.Address.{Address}
+use Rattle.rates.specs.Face.{showing}
 
 -- the frames in a day: drop-frame skips two numbers in 1,296 of its 1,440 minutes
 abbrev pub dayOf : ℕ → Bool → ℕ
@@ -36,14 +34,3 @@ faceAt fps p = showing (p / fps / 60 / 60) (p / fps / 60 % 60) (p / fps % 60) (p
 -- the address of frame number n
 unfoldable pub addressAt : ℕ → Bool → ℕ → Address
 addressAt fps drop n = faceAt fps (placeAt drop n)
-
--- "later number less earlier, brought by whole days into the range from minus half a day up to, and not including, plus half a day"
-unfoldable pub distanceOf : ℕ → ℕ → ℕ → ℤ
-distanceOf day from to =
-    cond (ltb (to + day / 2) from) (subℕ (to + day) from)
-    (cond (leb (from + day / 2) to) (subℕ to (from + day)) (subℕ to from))
-
--- "Adding any signed 32-bit count to an address goes round midnight either way"
-unfoldable pub sumOf : ℕ → ℕ → ℤ → ℕ
-sumOf day n (pos count) = (n + count) % day
-sumOf day n (negsuc less) = (n + (day - suc less % day)) % day

@@ -1,25 +1,22 @@
 // To addresses: the address of a frame number, the address that clock fields make, and an address plus a signed count.
 ghost use mathlib.Core.Path.{_≡_};
-ghost use mathlib.Core.Bool.{true, false};
-ghost use Prim.Native.Nat.{_<_, _≤_};
-ghost use lib.IntN.{pos, negsuc};
-ghost use lib.Signed.{nonNeg};
-ghost use Rattle.clock.specs.Rates.{framesInSecond};
-ghost use Rattle.clock.specs.Clock.{showing};
-ghost use Rattle.clock.specs.Counting.{placeAt, addressAt, sumOf};
+ghost use Prim.Native.Nat.{_<_};
+ghost use Rattle.rates.specs.Rates.{framesInSecond};
+ghost use Rattle.rates.specs.Face.{showing};
+ghost use Rattle.clock.specs.Counting.{placeAt, addressAt};
 ghost use Rattle.clock.specs.Calls.{addressOf, fieldsOf, plusOf};
 use crate::counting::count;
-use crate::judging::judge;
-use crate::rates::frames_in_day;
-use crate::rates::frames_in_second;
-use crate::rates::is_yes;
-use crate::rates::may_drop;
-use crate::types::Address;
 use crate::types::DayFrame;
-use crate::types::Flag;
 use crate::types::Placed;
-use crate::types::Rate;
-use crate::types::SecondFrame;
+use rates::Address;
+use rates::Flag;
+use rates::Rate;
+use rates::SecondFrame;
+use rates::frames_in_day;
+use rates::frames_in_second;
+use rates::is_yes;
+use rates::judge;
+use rates::may_drop;
 use refusals::Verdict;
 
 // The place of a number on a clock that skips nothing.
@@ -97,33 +94,6 @@ pub fn address_from(
     }
 }
 
-// A count that is not below 0, and one that is: how far on, and one less than how far back.
-fn on_by(frames: i32) -> u32
-    requires { ⌜ nonNeg frames ≡ true ⌝ }
-    ensures { λ r. ⌜ frames ≡ pos r ⌝ }
-{
-    frames as u32
-}
-
-fn back_by(frames: i32) -> u32
-    requires { ⌜ nonNeg frames ≡ false ⌝ }
-    ensures { λ r. ⌜ frames ≡ negsuc r ⌝ }
-{
-    !frames as u32
-}
-
-// A number below a day of so many plus a signed count, round the day either way.
-fn sum(day: u32, number: u32, frames: i32) -> u32
-    requires { ⌜ (0 < day) × ((day ≤ 2592000) × (number < 30000000)) ⌝ }
-    ensures { λ r. ⌜ r ≡ sumOf day number frames ⌝ }
-{
-    if frames < 0 {
-        let less = back_by(frames);
-        return (number + (day - (less + 1) % day)) % day;
-    }
-    (number + on_by(frames)) % day
-}
-
 pub fn add(rate: Rate, drop: Flag, address: Address, frames: i32) -> Placed
     ensures { λ r. ⌜ r ≡ plusOf rate drop address frames ⌝ }
 {
@@ -132,8 +102,9 @@ pub fn add(rate: Rate, drop: Flag, address: Address, frames: i32) -> Placed
         Verdict::Refused(number) => Placed::Refused(number),
         Verdict::Sound => {
             let dropped = is_yes(drop);
-            let day = frames_in_day(rate, dropped);
-            let number = DayFrame(sum(day, count(rate, dropped, address).0, frames));
+            let last = frames_in_day(rate, dropped) - 1;
+            let start = count(rate, dropped, address);
+            let number = DayFrame(round::sum(last, start.0, frames));
             Placed::At(address_at(rate, dropped, number))
         }
     }

@@ -1,11 +1,11 @@
 // The arithmetic of the day: an address's frame number, which the calls give out once the address has been found sound.
 ghost use mathlib.Core.Path.{_≡_};
-ghost use Rattle.clock.specs.Rates.{framesInSecond};
+ghost use Rattle.rates.specs.Rates.{framesInSecond};
 ghost use Rattle.clock.specs.Counting.{countOf};
-use crate::rates::frames_in_second;
-use crate::types::Address;
 use crate::types::DayFrame;
-use crate::types::Rate;
+use rates::Address;
+use rates::Rate;
+use rates::frames_in_second;
 
 // The frame number of an address: its place on a clock that skips nothing, less two for each minute begun but every tenth.
 pub fn count(rate: Rate, drop: bool, a: Address) -> DayFrame

@@ -1,27 +1,7 @@
-// A yes or a no of a record or a call.
-pub enum Flag {
-    No,
-    Yes,
-}
+use rates::Address;
 
-// The rates of counting: 24, 25 and 30 frames in a second.
-pub enum Rate {
-    At24,
-    At25,
-    At30,
-}
-
-// A frame number within a second, and a frame number of the day: kinds that must not be mixed by accident.
-pub struct SecondFrame(pub u8);
-
+// A frame number of the day: a kind of its own, so that it is not mixed with a frame number within a second by accident.
 pub struct DayFrame(pub u32);
-
-pub struct Address {
-    pub hours: u8,
-    pub minutes: u8,
-    pub seconds: u8,
-    pub frames: SecondFrame,
-}
 
 pub enum Numbered {
     Number(DayFrame),

@@ -12,16 +12,16 @@ use Rattle.refusals.specs.Table.{unknown-mode, outside-the-clock, skipped-addre
 use Rattle.refusals.specs.Answer.{Refusal}
 use Rattle.refusals.proofs.Answered.{Clear, neither}
 use Rattle.refusals.proofs.ByNumber.{clear-at}
-use Rattle.clock.specs.declared.types.Rate.{Rate}
-use Rattle.clock.specs.declared.types.Flag.{Flag}
-use Rattle.clock.specs.declared.types.Flag.the-variants.{No, Yes}
-use Rattle.clock.specs.Clock.{outside, skipped}
+use Rattle.rates.specs.declared.types.Rate.{Rate}
+use Rattle.rates.specs.declared.types.Flag.{Flag}
+use Rattle.rates.specs.declared.types.Flag.the-variants.{No, Yes}
+use Rattle.rates.specs.Face.{outside, skipped}
 use Rattle.clock.specs.Counting.{countOf}
-use Rattle.clock.proofs.Answers.{Counts, counts, clear-address}
-use Rattle.clock.proofs.Shown.{turnedAway, never-shown, shown-at-its-number}
-use Rattle.clock.specs.Rates.{isYes, framesInSecond, mayDrop}
+use Rattle.midnight.proofs.Answers.{Counts, counts, clear-address}
+use Rattle.midnight.proofs.Shown.{turnedAway, never-shown, shown-at-its-number}
+use Rattle.rates.specs.Rates.{isYes, framesInSecond, mayDrop}
 use Rattle.record.specs.declared.types.Record.{Record}
-use Rattle.record.specs.Flags.{unusedColour}
+use Rattle.layout.specs.Flags.{unusedColour}
 use Rattle.record.specs.Record.{groupAbove15}
 use Rattle.modes.specs.Calls.{writeRefusalsIn}
 use Rattle.modes.specs.Modes.{unknown, rateAt, withMode}

@@ -11,23 +11,24 @@ use native.Mathlib.Omega.{arith}
 use lib.ListN.{length, take, drop}
 use Rattle.runs.specs.Run.{placed}
 use Rattle.runs.proofs.Parts.{read-back}
-use Rattle.clock.specs.declared.types.Flag.{Flag}
-use Rattle.clock.specs.declared.types.Address.{Address}
+use Rattle.rates.specs.declared.types.Flag.{Flag}
+use Rattle.rates.specs.declared.types.Address.{Address}
 use Rattle.clock.specs.declared.types.DayFrame.{DayFrame}
 use Rattle.clock.specs.declared.types.Numbered.the-variants.{Number, Refused as Unnumbered}
 use Rattle.clock.specs.declared.types.Placed.the-variants.{At}
-use Rattle.clock.specs.Clock.{shown}
-use Rattle.clock.proofs.Answers.{address-is-shown, refused-exactly}
-use Rattle.clock.specs.Rates.{isYes, framesInSecond, framesInDay}
+use Rattle.midnight.specs.Steps.{shown}
+use Rattle.midnight.proofs.Answers.{address-is-shown, refused-exactly}
+use Rattle.rates.specs.Rates.{isYes, framesInSecond, framesInDay}
 use Rattle.modes.specs.Modes.{rateAt}
 use Rattle.modes.specs.Calls.{numberIn, addressIn}
-use Rattle.modes.proofs.Clocked.{number-at-rate, address-at-rate, one-to-one}
+use Rattle.modes.proofs.Clocked.{number-at-rate, address-at-rate}
+use Rattle.trips.proofs.Numbers.{one-to-one}
 use Rattle.ltc.specs.Word.{wordOf}
-use Rattle.ltc.proofs.RoundTrip as ltc
+use Rattle.trips.proofs.Words as ltc
 use Rattle.vitc.specs.Line.{lineOf}
-use Rattle.vitc.proofs.RoundTrip as vitc
+use Rattle.trips.proofs.Lines as vitc
 use Rattle.atc.specs.Calls.{packetOf}
-use Rattle.atc.proofs.RoundTrip as atc
+use Rattle.trips.proofs.Packets as atc
 use Rattle.demands.specs.Modes.{CountingMode}
 use Rattle.demands.specs.Carriers.{Carrier, linear, interval, ancillary, Accepting, Reading, Matches}
 use Rattle.demands.proofs.Demand1.{linear-room, interval-room, ancillary-room}

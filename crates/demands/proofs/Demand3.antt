@@ -10,15 +10,15 @@ use mathlib.Core.List.{List, []}
 use lib.ListN.{length, drop}
 use Rattle.record.specs.declared.types.Record.{Record}
 use Rattle.modes.specs.Modes.{unknown}
-use Rattle.reader.specs.declared.types.Reader.{Reader}
+use Rattle.register.specs.declared.types.Reader.{Reader}
 use Rattle.reader.specs.declared.types.Heard.{Heard}
-use Rattle.reader.specs.Reach.{fed, answers, Reached}
-use Rattle.reader.specs.Cuts.{Cut, inBlocks, AllOpen}
-use Rattle.reader.specs.Following.{CodeWord, endToEnd, eachAsItself, settled, FollowsAfter, Follows}
-use Rattle.reader.proofs.CutAnywhere.{cut-to-the-end, comes-to-the-end}
-use Rattle.reader.proofs.Demand3.{words-clean, demand-3, demand-3-in-blocks}
-use Rattle.reader.proofs.Tight.{five-is-tight}
-use Rattle.reader.proofs.Impostors as impostors
+use Rattle.following.specs.Reach.{fed, answers, Reached}
+use Rattle.following.specs.Cuts.{Cut, inBlocks, AllOpen}
+use Rattle.following.specs.Following.{CodeWord, endToEnd, eachAsItself, settled, FollowsAfter, Follows}
+use Rattle.following.proofs.CutAnywhere.{cut-to-the-end, comes-to-the-end}
+use Rattle.following.proofs.Demand3.{words-clean, demand-3, demand-3-in-blocks}
+use Rattle.following.proofs.Tight.{five-is-tight}
+use Rattle.following.proofs.Impostors as impostors
 use Rattle.demands.specs.Carriers.{linear}
 use Rattle.demands.proofs.Demand2.{linear-reads}
 

@@ -3,16 +3,17 @@
 use mathlib.Core.Path.{refl}
 use Rattle.bits.specs.Bits.{value, toBits, howMany}
 use Rattle.runs.specs.Run.{placed}
-use Rattle.clock.specs.Counting.{countOf, distanceOf}
+use Rattle.round.specs.Round.{distanceOf}
+use Rattle.clock.specs.Counting.{countOf}
 use Rattle.clock.specs.Calls.{numberOf, addressOf, fieldsOf, spanOf}
-use Rattle.record.specs.Layout.{join, layout}
+use Rattle.layout.specs.Layout.{join, layout}
 use Rattle.record.specs.Record.{fieldsOf as fieldsOfRecord, infoOf}
 use Rattle.modes.specs.Modes.{unknown, rateAt}
 use Rattle.modes.specs.Calls.{numberIn, addressIn, fieldsIn, spanIn}
 use Rattle.ltc.specs.Word.{syncWord, oddZeros, wordOf}
 use Rattle.ltc.specs.Calls as ltc
 use Rattle.vitc.specs.Line.{each, onesFrom, groups, payload, crcOf, lineWith, lineOf}
-use Rattle.atc.specs.Words.{dataWord, dataWords, sum9}
+use Rattle.words.specs.Words.{dataWord, dataWords, sum9}
 use Rattle.atc.specs.Packet.{header, checksumOf, frontOf, packetWith}
 use Rattle.atc.specs.Calls as atc
 use Rattle.demands.specs.Bars.{bars, onesAmong, packed, Rehearsed}

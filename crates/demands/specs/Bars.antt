@@ -1,6 +1,6 @@
 -- The bars to rehearse: "Marked P: proved of the written definitions, as a single table under a single claim."
 -- Assumes nothing.
-use Prim.Native.Nat.{ℕ, zero, suc, _+_}
+use Prim.Native.Nat.{ℕ, zero, suc}
 use mathlib.Core.Path.{_≡_}
 use mathlib.Core.Bool.{cond}
 use mathlib.Core.List.{List, [], _∷_, _++_, map}
@@ -8,15 +8,15 @@ use lib.Dec.{eqb}
 use lib.IntN.{ℤ, pos, negsuc}
 use lib.ListN.{take, drop, replicate}
 use Rattle.bits.specs.Bits.{value}
-use Rattle.clock.specs.declared.types.Flag.the-variants.{No, Yes}
-use Rattle.clock.specs.declared.types.Address.{Address}
+use Rattle.rates.specs.declared.types.Flag.the-variants.{No, Yes}
+use Rattle.rates.specs.declared.types.Address.{Address}
 use Rattle.clock.specs.declared.types.Numbered.{Numbered}
 use Rattle.clock.specs.declared.types.Numbered.the-variants.{Number, Refused as Unnumbered}
 use Rattle.clock.specs.declared.types.Placed.{Placed}
 use Rattle.clock.specs.declared.types.Placed.the-variants.{At, Refused as Unplaced}
 use Rattle.clock.specs.declared.types.Span.{Span}
 use Rattle.clock.specs.declared.types.Span.the-variants.{Frames, Refused as Unmeasured}
-use Rattle.clock.specs.Clock.{showing}
+use Rattle.rates.specs.Face.{showing}
 use Rattle.record.specs.declared.types.Record.{Record}
 use Rattle.modes.specs.Calls.{numberIn, addressIn, fieldsIn, spanIn}
 use Rattle.ltc.specs.Calls as ltc

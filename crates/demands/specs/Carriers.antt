@@ -8,7 +8,7 @@ use mathlib.Core.Logic.{_↔_, _⊎_}
 use lib.ListN.{length}
 use Rattle.runs.specs.declared.types.Written.the-variants.{Done, Refused}
 use Rattle.runs.specs.Run.{placed}
-use Rattle.clock.specs.declared.types.Flag.the-variants.{No}
+use Rattle.rates.specs.declared.types.Flag.the-variants.{No}
 use Rattle.record.specs.declared.types.Record.{Record}
 use Rattle.record.specs.declared.types.Unpacked.the-variants.{Holds}
 use Rattle.ltc.specs.Calls as ltc

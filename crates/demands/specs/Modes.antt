@@ -1,8 +1,8 @@
 -- "Counting at 24, 25 and 30 frames, with drop-frame at 30": the rows of the table of counting modes.
 -- Assumes nothing.
 use Prim.Native.Nat.{ℕ}
-use Rattle.clock.specs.declared.types.Flag.{Flag}
-use Rattle.clock.specs.declared.types.Flag.the-variants.{No, Yes}
+use Rattle.rates.specs.declared.types.Flag.{Flag}
+use Rattle.rates.specs.declared.types.Flag.the-variants.{No, Yes}
 
 -- a mode and a drop flag that count
 pub data CountingMode : ℕ → Flag → Type 0 where

@@ -3,9 +3,9 @@
 use Prim.Native.Nat.{ℕ}
 use mathlib.Core.Path.{_≡_}
 use mathlib.Core.Bool.{false}
-use Rattle.clock.specs.declared.types.Flag.the-variants.{No}
-use Rattle.clock.specs.Clock.{shown}
-use Rattle.clock.specs.Rates.{isYes, framesInSecond}
+use Rattle.rates.specs.declared.types.Flag.the-variants.{No}
+use Rattle.midnight.specs.Steps.{shown}
+use Rattle.rates.specs.Rates.{isYes, framesInSecond}
 use Rattle.record.specs.declared.types.Record.{Record}
 use Rattle.record.specs.Record.{groupAbove15}
 use Rattle.modes.specs.Modes.{rateAt}

@@ -1,56 +1,28 @@
 -- "Each answer's line is the bits so far, the address (colon before the frames when drop is 0) and groups 1 to 8 in upper-case hex; or
 -- the bits so far, the word refused and the number."
 -- Assumes nothing.
-use Prim.Native.Nat.{ℕ, zero, suc, _+_, _-_, _/_, _%_}
+use Prim.Native.Nat.{ℕ, _/_}
 use mathlib.Core.Bool.{cond}
 use mathlib.Core.List.{List, [], _∷_, _++_}
-use lib.Dec.{ltb}
-use Rattle.clock.specs.declared.types.Flag.{Flag}
-use Rattle.clock.specs.Rates.{isYes}
+use Rattle.rates.specs.declared.types.Flag.{Flag}
+use Rattle.rates.specs.Rates.{isYes}
 use Rattle.record.specs.declared.types.Groups.{Groups}
 use Rattle.record.specs.declared.types.Record.{Record}
 use Rattle.reader.specs.declared.types.Heard.{Heard}
 use Rattle.reader.specs.declared.types.Heard.the-variants.{Nothing, Accepted, Refused}
+use Rattle.text.specs.Ascii.{lineFeed, space}
+use Rattle.text.specs.Numerals.{lastDigit, decimal, hexDigit}
 
--- the characters by their numbers
-abbrev pub lineFeed : ℕ
-lineFeed = 10
-
-abbrev pub space : ℕ
-space = 32
-
-abbrev pub zeroDigit : ℕ
-zeroDigit = 48
-
+-- characters by their numbers
 abbrev pub colon : ℕ
 colon = 58
 
 abbrev pub semicolon : ℕ
 semicolon = 59
 
-abbrev pub upperA : ℕ
-upperA = 65
-
--- the character of a number's last decimal digit
-abbrev pub lastDigit : ℕ → ℕ
-lastDigit n = zeroDigit + n % 10
-
--- a number in decimal with no zeros in front, if it has at most so many digits
-unfoldable pub decimalWithin : ℕ → ℕ → List ℕ
-decimalWithin zero n = []
-decimalWithin (suc k) n = cond (ltb n 10) (lastDigit n ∷ []) (decimalWithin k (n / 10) ++ (lastDigit n ∷ []))
-
--- a 64-bit number has at most 20 decimal digits
-abbrev pub decimal : ℕ → List ℕ
-decimal n = decimalWithin 20 n
-
 -- an hour, a minute, a second, a frame: its last two decimal digits
 abbrev pub twoDigits : ℕ → List ℕ
 twoDigits n = lastDigit (n / 10) ∷ lastDigit n ∷ []
-
--- "upper-case hex": the character of a number's last hex digit
-unfoldable pub hexDigit : ℕ → ℕ
-hexDigit n = cond (ltb (n % 16) 10) (zeroDigit + n % 16) (upperA + (n % 16 - 10))
 
 -- "colon before the frames when drop is 0"
 abbrev pub beforeFrames : Flag → ℕ

@@ -4,16 +4,17 @@ ghost use mathlib.Core.List.{[], _∷_, _++_};
 ghost use Prim.Native.Nat.{_+_, _≤_};
 ghost use lib.ListN.{length};
 ghost use Rattle.runs.specs.Run.{placed};
-ghost use Rattle.lines.specs.Lines.{space, lineFeed, colon, twoDigits, beforeFrames, addressText, groupsText};
+ghost use Rattle.text.specs.Ascii.{space, lineFeed};
+ghost use Rattle.lines.specs.Lines.{colon, twoDigits, beforeFrames, addressText, groupsText};
 ghost use Rattle.lines.specs.Lines.{acceptedText, refusedText, lineOf, endLineOf};
-use crate::digits::append_decimal;
-use crate::digits::hex_digit;
-use crate::laying::append;
-use clock::Flag;
-use clock::SecondFrame;
+use rates::Flag;
+use rates::SecondFrame;
 use reader::Heard;
 use record::Groups;
 use record::Record;
+use text::append;
+use text::append_decimal;
+use text::hex_digit;
 
 // Room for any line. The longest has 42 characters: 20 digits of bits so far, 11 of an address, 8 of groups, two spaces and a line feed.
 pub const ROOM: usize = 64;

@@ -1,6 +1,6 @@
 -- A word of 80 bits that ends in the sync word is heard as its information bits.
 -- Assumes nothing.
-use Prim.Native.Nat.{ℕ, _-_}
+use Prim.Native.Nat.{ℕ}
 use mathlib.Core.Path.{_≡_, refl, sym, ap, ap₂, _∙_}
 use mathlib.Core.Bool.{false, _||_}
 use mathlib.Core.List.{List, _++_}
@@ -13,7 +13,7 @@ use Rattle.bits.proofs.Bit.{above-append}
 use Rattle.bits.proofs.Inverse.{toBits-value}
 use Rattle.runs.specs.Run.{same}
 use Rattle.runs.proofs.Same.{not-same}
-use Rattle.clock.specs.declared.types.Flag.the-variants.{No}
+use Rattle.rates.specs.declared.types.Flag.the-variants.{No}
 use Rattle.record.specs.declared.types.Unpacked.{Unpacked}
 use Rattle.record.specs.declared.types.Unpacked.the-variants.{Holds, Refused as Unheld}
 use Rattle.record.specs.Record.{marked}

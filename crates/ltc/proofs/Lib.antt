@@ -4,7 +4,9 @@ pub mod Zeros
 pub mod Heard
 -- Words     a word has 80 elements, and is stored as its two parts
 pub mod Words
--- Evened    the polarity bit makes the zeros even, and only one of its two values does
+-- Parts     the parts of a word made of 64 bits; it is read as its information bits are heard
+pub mod Parts
+-- Evened    a record and its mark; what setting the polarity bit adds
 pub mod Evened
 -- Rows      the lists of refusals follow the table's order
 pub mod Rows
@@ -12,7 +14,3 @@ pub mod Rows
 pub mod ReadTests
 -- WriteTests what each test of a write leads to
 pub mod WriteTests
--- RoundTrip accepted words and acceptable records match one to one
-pub mod RoundTrip
--- Apart     places of an accepted word at which it has not both this bit and the next set
-pub mod Apart

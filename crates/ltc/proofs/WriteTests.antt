@@ -13,13 +13,13 @@ use Rattle.runs.specs.declared.types.Written.{Written}
 use Rattle.runs.specs.declared.types.Written.the-variants.{Done, Refused as Unwritten}
 use Rattle.runs.specs.Run.{noRoom}
 use Rattle.runs.proofs.Written.{turned-away, written-there}
-use Rattle.clock.specs.declared.types.Rate.{Rate}
-use Rattle.clock.specs.declared.types.Flag.the-variants.{No}
-use Rattle.clock.specs.Rates.{isYes}
+use Rattle.rates.specs.declared.types.Rate.{Rate}
+use Rattle.rates.specs.declared.types.Flag.the-variants.{No}
+use Rattle.rates.specs.Rates.{isYes}
 use Rattle.record.specs.declared.types.Record.{Record}
 use Rattle.record.specs.declared.types.Packed.{Packed}
 use Rattle.record.specs.declared.types.Packed.the-variants.{Bits, Refused as Unpackable}
-use Rattle.record.specs.Flags.{places}
+use Rattle.layout.specs.Flags.{places}
 use Rattle.record.specs.Calls.{packedOf}
 use Rattle.record.proofs.Accepted.{Writable, writable}
 use Rattle.modes.specs.declared.types.Rated.{Rated}

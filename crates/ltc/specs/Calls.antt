@@ -9,8 +9,8 @@ use Rattle.refusals.specs.Table.{wrong-length, unknown-mode, element-too-high, 
 use Rattle.refusals.specs.Answer.{Refusal, _when_, answer}
 use Rattle.bits.specs.Bits.{someAbove}
 use Rattle.runs.specs.Run.{noRoom, writtenBy, runAfter, same}
-use Rattle.clock.specs.declared.types.Flag.the-variants.{No}
-use Rattle.clock.specs.Rates.{isYes}
+use Rattle.rates.specs.declared.types.Flag.the-variants.{No}
+use Rattle.rates.specs.Rates.{isYes}
 use Rattle.record.specs.declared.types.Record.{Record}
 use Rattle.record.specs.declared.types.Unpacked.{Unpacked}
 use Rattle.record.specs.declared.types.Unpacked.the-variants.{Holds, Refused as Unheld}

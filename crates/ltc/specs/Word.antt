@@ -7,7 +7,7 @@ use mathlib.Core.List.{List, [], _∷_, _++_}
 use lib.Dec.{eqb}
 use lib.ListN.{take}
 use Rattle.bits.specs.Bits.{value, toBits, zerosIn}
-use Rattle.clock.specs.declared.types.Flag.the-variants.{Yes}
+use Rattle.rates.specs.declared.types.Flag.the-variants.{Yes}
 use Rattle.record.specs.declared.types.Record.{Record}
 use Rattle.record.specs.Record.{marked}
 use Rattle.modes.specs.Calls.{informationIn}

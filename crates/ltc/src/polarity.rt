@@ -1,9 +1,9 @@
 // "All 80 bits must hold an even number of zeros": the sync word has three zeros and thirteen ones.
 ghost use mathlib.Core.Path.{_≡_};
-ghost use Rattle.clock.specs.declared.types.Flag.the-variants.{No};
+ghost use Rattle.rates.specs.declared.types.Flag.the-variants.{No};
 ghost use Rattle.record.specs.Record.{marked};
 ghost use Rattle.ltc.specs.Word.{wordWith, oddZeros};
-use clock::Flag;
+use rates::Flag;
 use record::Flags;
 use record::Record;
 

@@ -3,12 +3,12 @@ ghost use Prim.Native.Nat.{_+_, _^_, _<_};
 ghost use mathlib.Core.Path.{_≡_};
 ghost use mathlib.Core.Bool.{cond};
 ghost use lib.ListN.{length};
-ghost use Rattle.record.specs.Flags.{places};
+ghost use Rattle.layout.specs.Flags.{places};
 ghost use Rattle.ltc.specs.Word.{wordWith, oddZeros};
 ghost use Rattle.ltc.specs.Calls.{writtenOf, runOf};
 use crate::polarity::has_odd_zeros;
-use clock::Rate;
 use modes::Rated;
+use rates::Rate;
 use record::Packed;
 use record::Record;
 use runs::Written;
@@ -28,7 +28,7 @@ fn corrected(rate: Rate, plain: u64) -> u64
     ensures { λ n. ⌜ n ≡ cond (oddZeros (wordWith plain)) (plain + 2 ^ places rate .mark) plain ⌝ }
 {
     if has_odd_zeros(plain) {
-        return plain + record::mark_value(rate);
+        return plain + layout::mark_value(rate);
     }
     plain
 }
@@ -45,7 +45,7 @@ pub fn write(mode: u8, r: Record, start: usize, run: &mut [u8]) -> Written
     match found {
         Packed::Refused(number) => Written::Refused(number),
         Packed::Bits(plain) => {
-            if clock::is_yes(mark) {
+            if rates::is_yes(mark) {
                 return Written::Refused(refusals::MARK_SET);
             }
             if runs::lacks_room(80, start, run.len()) {

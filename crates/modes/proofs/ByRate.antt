@@ -1,53 +1,23 @@
--- In a mode that is known the record's calls answer as they do at its rate; so a record makes 64 bits exactly where those bits hold the record.
+-- In a mode that is known a record's bits are made as at its rate; what a mode's rate tells.
 -- Assumes nothing.
-use Prim.Native.Nat.{ℕ, _^_, _<_}
+use Prim.Native.Nat.{ℕ}
 use mathlib.Core.Path.{_≡_, refl, sym, ap, _∙_}
 use mathlib.Core.Bool.{Bool, true, false}
-use mathlib.Core.Logic.{_↔_}
 use native.Mathlib.Omega.{arith}
 use Rattle.refusals.specs.Table.{unknown-mode}
-use Rattle.refusals.proofs.Answered.{Clear, accepted-as}
-use Rattle.refusals.proofs.ByNumber.{clear-at}
-use Rattle.clock.specs.declared.types.Rate.{Rate}
+use Rattle.rates.specs.declared.types.Rate.{Rate}
 use Rattle.record.specs.declared.types.Record.{Record}
-use Rattle.record.specs.declared.types.Unpacked.the-variants.{Holds, Refused as Unheld}
-use Rattle.record.specs.declared.types.Packed.the-variants.{Bits}
-use Rattle.record.specs.Calls.{packedOf, unpackedOf}
-use Rattle.record.proofs.RoundTrip as rate
+use Rattle.record.specs.Calls.{packedOf}
 use Rattle.modes.specs.declared.types.Rated.{Rated}
 use Rattle.modes.specs.declared.types.Rated.the-variants.{Known, Refused}
-use Rattle.modes.specs.Modes.{unknown, rateAt, withMode, ratedOf}
-use Rattle.modes.specs.Calls.{recordIn, bitsRefusalsIn, writeRefusalsIn, packedIn, unpackedIn}
+use Rattle.modes.specs.Modes.{unknown, rateAt, ratedOf}
+use Rattle.modes.specs.Calls.{packedIn}
 use Rattle.modes.proofs.InMode.{answered}
-use Rattle.modes.proofs.Told.{packed-is}
 
 module _ (mode : ℕ) where
   pub packs-at-rate : (r : Record) → unknown mode ≡ false → packedIn mode r ≡ packedOf (rateAt mode) r
   unfolding packedIn packedOf
   packs-at-rate r known = rw known
-
-  unpacks-at-rate : (n : ℕ) → unknown mode ≡ false → unpackedIn mode n ≡ unpackedOf (rateAt mode) n
-  unfolding unpackedIn unpackedOf
-  unpacks-at-rate n known = rw known
-
-  -- bits that were unpacked are clear of refusals
-  pub unpacked-clear : (n : ℕ) (r : Record) → unpackedIn mode n ≡ Holds r → Clear (withMode mode (bitsRefusalsIn mode n))
-  unfolding unpackedIn
-  unpacked-clear n r e = accepted-as Unheld (Holds (recordIn mode n)) (withMode mode (bitsRefusalsIn mode n)) (Holds r) rate.no-record e .0
-
-  -- a record makes 64 bits exactly where those bits hold the record
-  pub one-to-one : (n : ℕ) (r : Record) → n < 2 ^ 64 → packedIn mode r ≡ Bits n ↔ unpackedIn mode n ≡ Holds r
-  one-to-one n r low = (there, back)
-    where
-      there : packedIn mode r ≡ Bits n → unpackedIn mode n ≡ Holds r
-      there e =
-          let known = clear-at unknown-mode (withMode mode (writeRefusalsIn mode r)) (packed-is mode r n e .0) in
-          unpacks-at-rate n known ∙ rate.one-to-one (rateAt mode) n r low .0 (sym (packs-at-rate r known) ∙ e)
-
-      back : unpackedIn mode n ≡ Holds r → packedIn mode r ≡ Bits n
-      back e =
-          let known = clear-at unknown-mode (withMode mode (bitsRefusalsIn mode n)) (unpacked-clear n r e) in
-          packs-at-rate r known ∙ rate.one-to-one (rateAt mode) n r low .1 (sym (unpacks-at-rate n known) ∙ e)
 
 -- a rate that was told is the mode's own, and the mode is known; a mode that was refused is unknown
 rateIn : Rate → Rated → Rate

@@ -3,7 +3,7 @@
 use Prim.Native.Nat.{ℕ}
 use mathlib.Core.Path.{_≡_, refl, sym, ap, _∙_}
 use mathlib.Core.Bool.{Bool, true, false}
-use Rattle.clock.specs.declared.types.Rate.{Rate}
+use Rattle.rates.specs.declared.types.Rate.{Rate}
 use Rattle.modes.specs.Modes.{unknown, rateAt, inMode}
 
 module _ {A : Type 0} (refused : ℕ → A) (mode : ℕ) (call : Rate → A) where

@@ -6,15 +6,17 @@ use mathlib.Core.Bool.{true}
 use lib.IntN.{ℤ}
 use Rattle.refusals.specs.Table.{theOrder}
 use Rattle.refusals.specs.Answer.{answer, inOrder}
-use Rattle.clock.specs.declared.types.Flag.{Flag}
-use Rattle.clock.specs.declared.types.Address.{Address}
+use Rattle.rates.specs.declared.types.Flag.{Flag}
+use Rattle.rates.specs.declared.types.Address.{Address}
 use Rattle.clock.specs.declared.types.DayFrame.{DayFrame}
 use Rattle.clock.specs.declared.types.Numbered.the-variants.{Number, Refused as Unnumbered}
 use Rattle.clock.specs.declared.types.Placed.the-variants.{At, Refused as Unplaced}
 use Rattle.clock.specs.declared.types.Span.the-variants.{Frames, Refused as Unmeasured}
-use Rattle.clock.specs.Rates.{isYes, framesInSecond, framesInDay}
-use Rattle.clock.specs.Counting.{countOf, addressAt, distanceOf, sumOf}
-use Rattle.clock.specs.Calls.{refusalsOf, refusalsOfTwo, numberRefusals, numberOf, addressOf, fieldsOf, spanOf, plusOf}
+use Rattle.rates.specs.Rates.{isYes, framesInSecond, framesInDay}
+use Rattle.round.specs.Round.{distanceOf, sumOf}
+use Rattle.clock.specs.Counting.{countOf, addressAt}
+use Rattle.rates.specs.Refused.{refusalsOf, refusalsOfTwo}
+use Rattle.clock.specs.Calls.{numberRefusals, numberOf, addressOf, fieldsOf, spanOf, plusOf}
 use Rattle.record.specs.declared.types.Record.{Record}
 use Rattle.modes.specs.Modes.{rateAt, withMode}
 use Rattle.modes.specs.Calls.{numberIn, addressIn, fieldsIn, spanIn, plusIn, bitsRefusalsIn, writeRefusalsIn}

@@ -7,8 +7,8 @@ use lib.Dec.{leb}
 use lib.ListN.{length}
 use Rattle.refusals.specs.Table.{unknown-mode}
 use Rattle.refusals.specs.Answer.{Refusal, _when_, answer}
-use Rattle.clock.specs.declared.types.Rate.{Rate}
-use Rattle.clock.specs.declared.types.Rate.the-variants.{At24, At25, At30}
+use Rattle.rates.specs.declared.types.Rate.{Rate}
+use Rattle.rates.specs.declared.types.Rate.the-variants.{At24, At25, At30}
 use Rattle.modes.specs.declared.types.Rated.{Rated}
 use Rattle.modes.specs.declared.types.Rated.the-variants.{Known, Refused}
 

@@ -1,16 +1,16 @@
 // The calls of the clock, by mode.
 ghost use mathlib.Core.Path.{_≡_};
-ghost use Rattle.clock.specs.Clock.{showing};
+ghost use Rattle.rates.specs.Face.{showing};
 ghost use Rattle.modes.specs.Calls.{numberIn, addressIn, fieldsIn, spanIn, plusIn};
 use crate::table::is_unknown;
 use crate::table::rate_at;
-use clock::Address;
 use clock::DayFrame;
-use clock::Flag;
 use clock::Numbered;
 use clock::Placed;
-use clock::SecondFrame;
 use clock::Span;
+use rates::Address;
+use rates::Flag;
+use rates::SecondFrame;
 
 pub fn number_of(mode: u8, drop: Flag, address: Address) -> Numbered
     ensures { λ r. ⌜ r ≡ numberIn mode drop address ⌝ }

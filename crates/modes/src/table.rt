@@ -2,7 +2,7 @@
 ghost use mathlib.Core.Path.{_≡_};
 ghost use Rattle.modes.specs.Modes.{rateAt, unknown, ratedOf};
 use crate::types::Rated;
-use clock::Rate;
+use rates::Rate;
 
 // How many modes there are: the first number that is unknown.
 const MODES: u8 = 3;

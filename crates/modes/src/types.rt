@@ -1,4 +1,4 @@
-use clock::Rate;
+use rates::Rate;
 
 // The rate of a mode, or the number that it is refused with.
 pub enum Rated {

@@ -16,12 +16,12 @@ use Rattle.runs.specs.Run.{same}
 use Rattle.runs.proofs.Same.{same-itself, not-same}
 use Rattle.ltc.specs.Word.{syncWord, wordWith}
 use Rattle.ltc.specs.Calls.{readOf, heardOf}
-use Rattle.ltc.proofs.RoundTrip.{read-is-heard}
-use Rattle.reader.specs.declared.types.Reader.{Reader}
+use Rattle.ltc.proofs.Parts.{read-is-heard}
+use Rattle.register.specs.declared.types.Reader.{Reader}
 use Rattle.reader.specs.declared.types.Heard.the-variants.{Nothing}
-use Rattle.reader.specs.Held.{register, heldBits, unreached}
+use Rattle.register.specs.Held.{register, heldBits, unreached}
 use Rattle.reader.specs.Steps.{told, heardIn}
-use Rattle.reader.proofs.Registers.{held-length, few}
+use Rattle.register.proofs.Registers.{held-length, few}
 
 module _ (r : Reader) (low : r .info < 2 ^ 64) (high : r .sync < 2 ^ 16) (passes : unreached r ≡ false) where
   top : drop 64 (register r) ≡ toBits 16 (r .sync)

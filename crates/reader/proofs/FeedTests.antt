@@ -7,8 +7,8 @@ use Prim.Native.Nat.{ℕ, _+_, _^_, _≤_, _<_, min}
 use native.Mathlib.Omega.{arith}
 use lib.ListN.{length, getD}
 use Rattle.modes.specs.Modes.{unknown}
-use Rattle.reader.specs.declared.types.Reader.{Reader}
-use Rattle.reader.specs.Held.{heldBits, push, readerWith, unreached}
+use Rattle.register.specs.declared.types.Reader.{Reader}
+use Rattle.register.specs.Held.{heldBits, push, readerWith, unreached}
 use Rattle.reader.specs.declared.types.Heard.{Heard}
 use Rattle.reader.specs.Steps.{heardIn}
 use Rattle.reader.specs.Blocks.{isAnswer, stopped, going}

@@ -5,7 +5,7 @@ use mathlib.Core.Path.{_≡_, refl}
 use mathlib.Core.Bool.{true}
 use Rattle.refusals.specs.Table.{theOrder}
 use Rattle.refusals.specs.Answer.{inOrder}
-use Rattle.reader.specs.declared.types.Reader.{Reader}
+use Rattle.register.specs.declared.types.Reader.{Reader}
 use Rattle.reader.specs.Steps.{readerRefusals, feedRefusals}
 
 pub block-rows-in-order : (reader : Reader) → inOrder theOrder (readerRefusals reader) ≡ true

@@ -10,12 +10,12 @@ use borrow.Author.Tests.{le-ltb}
 use Rattle.bits.specs.Bits.{someAbove, AllBits}
 use Rattle.bits.proofs.Bit.{within-drop, within-cons, within-append}
 use Rattle.modes.specs.Modes.{unknown}
-use Rattle.reader.specs.declared.types.Reader.{Reader}
+use Rattle.register.specs.declared.types.Reader.{Reader}
 use Rattle.reader.specs.declared.types.Heard.{Heard}
-use Rattle.reader.specs.Held.{heldBits, push, readerWith, unreached}
+use Rattle.register.specs.Held.{heldBits, push, readerWith, unreached}
 use Rattle.reader.specs.Steps.{after, heardIn, steppedOf}
-use Rattle.reader.proofs.Registers.{held-clean, held-of, check-of}
-use Rattle.reader.proofs.Pushed.{push-length}
+use Rattle.register.proofs.Registers.{held-clean, held-of, check-of}
+use Rattle.register.proofs.Pushed.{push-length}
 
 pub push-clean : (bits : List ℕ) (bit : ℕ) → AllBits bits → bit ≤ 1 → AllBits (push bits bit)
 unfolding someAbove

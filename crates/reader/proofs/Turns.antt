@@ -11,10 +11,10 @@ use lib.Dec.{ltb, eqb}
 use lib.ListN.{length, getD, drop, drop-of-length-le}
 use lib.Seq.{drop-cons}
 use borrow.Author.Tests.{lt-ltb, le-ltb, ltb-true, ltb-false, ne-eqb}
-use Rattle.reader.specs.declared.types.Reader.{Reader}
+use Rattle.register.specs.declared.types.Reader.{Reader}
 use Rattle.reader.specs.declared.types.Heard.{Heard}
 use Rattle.reader.specs.declared.types.Heard.the-variants.{Nothing, Refused}
-use Rattle.reader.specs.Held.{heldBits, push, readerWith}
+use Rattle.register.specs.Held.{heldBits, push, readerWith}
 use Rattle.reader.specs.Steps.{heardIn, steppedOf}
 use Rattle.reader.specs.Blocks.{isAnswer, stopped, oneMore, going}
 use Rattle.reader.specs.Feeding.{moreBefore, Sound, Feeding}

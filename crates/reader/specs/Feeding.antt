@@ -6,9 +6,9 @@ use mathlib.Core.Bool.{false}
 use mathlib.Core.List.{List}
 use lib.ListN.{length, drop}
 use Rattle.modes.specs.Modes.{unknown}
-use Rattle.reader.specs.declared.types.Reader.{Reader}
+use Rattle.register.specs.declared.types.Reader.{Reader}
 use Rattle.reader.specs.declared.types.Blocked.{Blocked}
-use Rattle.reader.specs.Held.{unreached}
+use Rattle.register.specs.Held.{unreached}
 use Rattle.reader.specs.Blocks.{stopped, going}
 
 -- so many bits were taken before this block

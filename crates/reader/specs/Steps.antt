@@ -14,11 +14,11 @@ use Rattle.record.specs.declared.types.Unpacked.the-variants.{Holds, Refused as
 use Rattle.modes.specs.Modes.{unknown}
 use Rattle.ltc.specs.Word.{syncWord}
 use Rattle.ltc.specs.Calls.{readOf}
-use Rattle.reader.specs.declared.types.Reader.{Reader}
+use Rattle.register.specs.declared.types.Reader.{Reader}
 use Rattle.reader.specs.declared.types.Heard.{Heard}
 use Rattle.reader.specs.declared.types.Heard.the-variants.{Nothing, Accepted, Refused}
 use Rattle.reader.specs.declared.types.Stepped.{Stepped}
-use Rattle.reader.specs.Held.{heldBits, push, readerWith, unreached}
+use Rattle.register.specs.Held.{heldBits, push, readerWith, unreached}
 
 -- "The answer holds the whole record inside the accepted case"
 abbrev pub told : Unpacked → Heard

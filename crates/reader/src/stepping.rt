@@ -3,15 +3,15 @@ ghost use mathlib.Core.Path.{_≡_};
 ghost use mathlib.Core.Bool.{false};
 ghost use Prim.Native.Nat.{_<_, min};
 ghost use Rattle.modes.specs.Modes.{unknown};
-ghost use Rattle.reader.specs.Held.{heldBits, push, readerWith, unreached};
+ghost use Rattle.register.specs.Held.{heldBits, push, readerWith, unreached};
 ghost use Rattle.reader.specs.Steps.{heardIn, steppedOf};
 ghost use Rattle.reader.specs.Blocks.{isAnswer, going, blockedOf};
-use crate::register::is_unreached;
 use crate::types::Blocked;
 use crate::types::Heard;
-use crate::types::Reader;
 use crate::types::Stepped;
 use record::Unpacked;
+use register::Reader;
+use register::is_unreached;
 
 // The reader with one bit more.
 fn pushed(reader: Reader, bit: u8) -> Reader

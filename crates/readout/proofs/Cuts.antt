@@ -10,16 +10,16 @@ use native.Mathlib.Omega.{arith}
 use lib.Dec.{ltb}
 use lib.ListN.{length, take, length-append, length-take}
 use borrow.Author.Tests.{ltb-false}
-use Rattle.reader.specs.declared.types.Reader.{Reader}
+use Rattle.register.specs.declared.types.Reader.{Reader}
 use Rattle.reader.specs.declared.types.Heard.{Heard}
 use Rattle.reader.specs.Steps.{steppedOf}
-use Rattle.reader.specs.Reach.{fed, answers}
-use Rattle.reader.proofs.Cut.{fed-cut, answers-cut}
+use Rattle.following.specs.Reach.{fed, answers}
+use Rattle.following.proofs.Cut.{fed-cut, answers-cut}
 use Rattle.lines.specs.Lines.{lineOf}
+use Rattle.characters.specs.Characters.{isSkipped, isDigit, bitsIn, goesOn}
+use Rattle.characters.proofs.Sifts.{in-parts}
 use Rattle.scribe.specs.declared.types.Scribe.{Scribe}
-use Rattle.scribe.specs.Characters.{isSkipped, isDigit, bitsIn, goesOn}
 use Rattle.scribe.specs.Told.{counted, oneOn, linesOf, textOf, leftAfter, scribeAfter}
-use Rattle.scribe.proofs.Sifts.{in-parts}
 use Rattle.scribe.proofs.Lined.{counted-on}
 
 -- of two pieces in one, those characters of the second count for which the first leaves room

@@ -8,11 +8,12 @@ use Rattle.record.specs.Record.{recordOf}
 use Rattle.modes.specs.Modes.{unknown, rateAt}
 use Rattle.ltc.specs.Word.{syncWord, oddZeros}
 use Rattle.ltc.specs.Calls.{readOf}
-use Rattle.reader.specs.Held.{readerWith, unreached}
+use Rattle.register.specs.Held.{readerWith, unreached}
 use Rattle.reader.specs.Steps.{heardIn, steppedOf}
-use Rattle.reader.specs.Reach.{fed, answers}
-use Rattle.lines.specs.Lines.{decimalWithin, hexDigit, addressText, groupsText, acceptedText, lineOf, endLineOf}
-use Rattle.scribe.specs.Characters.{bitsIn, goesOn}
+use Rattle.following.specs.Reach.{fed, answers}
+use Rattle.text.specs.Numerals.{decimalWithin, hexDigit}
+use Rattle.lines.specs.Lines.{addressText, groupsText, acceptedText, lineOf, endLineOf}
+use Rattle.characters.specs.Characters.{bitsIn, goesOn}
 use Rattle.scribe.specs.Told.{freshScribe, linesOf, textOf, scribeAfter}
 use Rattle.readout.specs.Sample.{theWord, theTwoLines}
 

@@ -6,7 +6,7 @@ use mathlib.Core.List.{List}
 use native.Mathlib.Omega.{arith}
 use lib.ListN.{length, take}
 use Rattle.runs.specs.Run.{placed}
-use Rattle.lines.proofs.Laid.{told-within, prefix-length}
+use Rattle.text.proofs.Laid.{told-within, prefix-length}
 use Rattle.scribe.specs.declared.types.Scribe.{Scribe}
 use Rattle.scribe.specs.declared.types.Telling.{Telling}
 use Rattle.scribe.specs.declared.types.Told.{Told}

@@ -7,12 +7,12 @@ use borrow.Author.Tests.{ltb-false}
 use Rattle.refusals.specs.Table.{outside-the-clock}
 use Rattle.refusals.proofs.Answered.{Clear, neither}
 use Rattle.refusals.proofs.ByNumber.{clear-at}
-use Rattle.clock.specs.declared.types.Rate.{Rate}
-use Rattle.clock.specs.declared.types.Address.{Address}
-use Rattle.clock.specs.Rates.{framesInSecond}
-use Rattle.clock.specs.Clock.{outside}
-use Rattle.clock.proofs.Face.{inside}
-use Rattle.clock.proofs.Sizes.{rate-small}
+use Rattle.rates.specs.declared.types.Rate.{Rate}
+use Rattle.rates.specs.declared.types.Address.{Address}
+use Rattle.rates.specs.Rates.{framesInSecond}
+use Rattle.rates.specs.Face.{outside}
+use Rattle.rates.proofs.Inside.{inside}
+use Rattle.rates.proofs.Sizes.{rate-small}
 use Rattle.record.specs.declared.types.Groups.{Groups}
 use Rattle.record.specs.declared.types.Record.{Record}
 use Rattle.record.specs.Record.{groupAbove15}

@@ -1,11 +1,11 @@
 -- The table of flags has a row for 25 frames and one for the other rates: the flag that stands at each of the three places.
 -- Assumes nothing.
 use mathlib.Core.Path.{_≡_, refl}
-use Rattle.clock.specs.declared.types.Rate.{Rate}
-use Rattle.clock.specs.declared.types.Rate.the-variants.{At24, At25, At30}
-use Rattle.clock.specs.Rates.{byRate}
+use Rattle.rates.specs.declared.types.Rate.{Rate}
+use Rattle.rates.specs.declared.types.Rate.the-variants.{At24, At25, At30}
+use Rattle.rates.specs.Rates.{byRate}
 use Rattle.record.specs.declared.types.Flags.{Flags}
-use Rattle.record.specs.Flags.{places}
+use Rattle.layout.specs.Flags.{places}
 use Rattle.record.specs.Record.{standingAt}
 
 module _ (f : Flags) where

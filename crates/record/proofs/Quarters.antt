@@ -3,13 +3,13 @@
 use mathlib.Core.Path.{_≡_, sym, ap, _∙_}
 use Prim.Native.Nat.{ℕ, _+_, _*_, _/_, _≤_, _<_}
 use native.Mathlib.Omega.{arith}
-use Rattle.clock.specs.declared.types.Rate.{Rate}
-use Rattle.clock.specs.declared.types.Flag.{Flag}
-use Rattle.clock.specs.declared.types.Flag.the-variants.{No}
-use Rattle.clock.specs.Rates.{byRate}
+use Rattle.rates.specs.declared.types.Rate.{Rate}
+use Rattle.rates.specs.declared.types.Flag.{Flag}
+use Rattle.rates.specs.declared.types.Flag.the-variants.{No}
+use Rattle.rates.specs.Rates.{byRate}
 use Rattle.record.specs.declared.types.Record.{Record}
-use Rattle.record.specs.Layout.{join, layout}
-use Rattle.record.specs.Flags.{bitOf, places}
+use Rattle.layout.specs.Layout.{join, layout}
+use Rattle.layout.specs.Flags.{bitOf, places}
 use Rattle.record.specs.Record.{standingAt, fieldsOf, infoOf}
 use Rattle.record.specs.Fits.{QuarterOf}
 use Rattle.record.proofs.Places.{at-27, at-43, at-59}

@@ -4,7 +4,7 @@ use mathlib.Core.Path.{_≡_, refl}
 use mathlib.Core.Bool.{Bool, true}
 use Rattle.refusals.specs.Table.{theOrder}
 use Rattle.refusals.specs.Answer.{inOrder}
-use Rattle.clock.specs.declared.types.Rate.{Rate}
+use Rattle.rates.specs.declared.types.Rate.{Rate}
 use Rattle.record.specs.declared.types.Record.{Record}
 use Rattle.record.specs.Calls.{recordRefusals}
 

@@ -4,14 +4,14 @@ use Prim.Native.Nat.{ℕ}
 use mathlib.Core.Bool.{Bool}
 use mathlib.Core.List.{List}
 use Rattle.refusals.specs.Answer.{Refusal, answer}
-use Rattle.clock.specs.declared.types.Rate.{Rate}
-use Rattle.clock.specs.Calls.{refusalsBesides}
+use Rattle.rates.specs.declared.types.Rate.{Rate}
+use Rattle.rates.specs.Refused.{refusalsBesides}
 use Rattle.record.specs.declared.types.Record.{Record}
 use Rattle.record.specs.declared.types.Unpacked.{Unpacked}
 use Rattle.record.specs.declared.types.Unpacked.the-variants.{Holds, Refused as Unheld}
 use Rattle.record.specs.declared.types.Packed.{Packed}
 use Rattle.record.specs.declared.types.Packed.the-variants.{Bits, Refused as Unpackable}
-use Rattle.record.specs.Flags.{unusedColour}
+use Rattle.layout.specs.Flags.{unusedColour}
 use Rattle.record.specs.Record.{recordOf, infoOf, digitAbove9, groupAbove15}
 
 -- 8 a field outside the clock, or what `bad` says: a digit above 9 in the bits, a group above 15 in a record; 9 at 30, drop set, one of

@@ -2,8 +2,8 @@
 -- Assumes nothing.
 use Prim.Native.Nat.{ℕ, _+_, _*_, _/_, _%_, _≤_}
 use mathlib.Core.Path.{_≡_}
-use Rattle.clock.specs.declared.types.Flag.{Flag}
-use Rattle.record.specs.Flags.{bitOf}
+use Rattle.rates.specs.declared.types.Flag.{Flag}
+use Rattle.layout.specs.Flags.{bitOf}
 
 -- sixteen of the bits: units, a group, tens and two flags, a group; and how large they can be
 pub record QuarterOf (number low : ℕ) (first second : Flag) (high q : ℕ) : Type 0 where

@@ -4,15 +4,15 @@ use Prim.Native.Nat.{ℕ, _+_, _*_, _/_, _%_}
 use mathlib.Core.Bool.{Bool, _||_, cond}
 use mathlib.Core.List.{List, [], _∷_}
 use lib.Dec.{ltb, eqb}
-use Rattle.clock.specs.declared.types.Rate.{Rate}
-use Rattle.clock.specs.declared.types.Flag.{Flag}
-use Rattle.clock.specs.declared.types.Address.{Address}
-use Rattle.clock.specs.Clock.{showing}
+use Rattle.rates.specs.declared.types.Rate.{Rate}
+use Rattle.rates.specs.declared.types.Flag.{Flag}
+use Rattle.rates.specs.declared.types.Address.{Address}
+use Rattle.rates.specs.Face.{showing}
 use Rattle.record.specs.declared.types.Flags.{Flags}
 use Rattle.record.specs.declared.types.Groups.{Groups}
 use Rattle.record.specs.declared.types.Record.{Record}
-use Rattle.record.specs.Layout.{bits, join, layout}
-use Rattle.record.specs.Flags.{bitOf, flagAt, Places, places}
+use Rattle.layout.specs.Layout.{bits, join, layout}
+use Rattle.layout.specs.Flags.{bitOf, flagAt, Places, places}
 
 -- "Low bit first in each field": hours, minutes, seconds and frames, each by its units and tens
 abbrev pub addressHeld : ℕ → Address

@@ -2,9 +2,9 @@
 ghost use mathlib.Core.Path.{_≡_};
 ghost use Rattle.refusals.specs.Answer.{verdictOf};
 ghost use Rattle.record.specs.Calls.{recordRefusals};
-use crate::flags::is_unused_colour;
 use crate::types::Record;
-use clock::Rate;
+use layout::is_unused_colour;
+use rates::Rate;
 use refusals::Verdict;
 
 // `bad` where a digit or a group is out of its range, which is no concern of the clock's.
@@ -16,5 +16,5 @@ pub fn judge(rate: Rate, bad: bool, r: Record) -> Verdict
     let colour = flags.colour;
     let unused = is_unused_colour(rate, colour);
     let address = r.address;
-    clock::judge(rate, drop, address, bad, unused)
+    rates::judge(rate, drop, address, bad, unused)
 }

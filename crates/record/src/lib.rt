@@ -1,17 +1,14 @@
 // The record: 64 information bits and what they say, at each rate.
 //
 // types      what a record and an answer are
-// flags      flags as bits, and what a rate decides of them
 // judging    what is turned away, in the bits and in a record alike
 // reading    from 64 information bits to a record
 // writing    from a record to 64 information bits
-mod flags;
 mod judging;
 mod reading;
 mod types;
 mod writing;
 
-pub use flags::mark_value;
 pub use reading::from_bits;
 pub use types::Flags;
 pub use types::Groups;

@@ -1,18 +1,18 @@
 // From 64 information bits to a record.
 ghost use mathlib.Core.Path.{_≡_};
-ghost use Rattle.record.specs.Flags.{places};
+ghost use Rattle.layout.specs.Flags.{places};
 ghost use Rattle.record.specs.Record.{addressHeld, flagsHeld, groupsHeld, recordOf, digitAbove9};
 ghost use Rattle.record.specs.Calls.{unpackedOf};
-use crate::flags::by_25;
-use crate::flags::flag;
 use crate::judging::judge;
 use crate::types::Flags;
 use crate::types::Groups;
 use crate::types::Record;
 use crate::types::Unpacked;
-use clock::Address;
-use clock::Rate;
-use clock::SecondFrame;
+use layout::by_25;
+use layout::flag;
+use rates::Address;
+use rates::Rate;
+use rates::SecondFrame;
 use refusals::Verdict;
 
 fn has_bad_digit(info: u64) -> bool

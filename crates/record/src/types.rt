@@ -1,5 +1,5 @@
-use clock::Address;
-use clock::Flag;
+use rates::Address;
+use rates::Flag;
 
 // The flags of a record, each yes or no.
 pub struct Flags {

@@ -5,14 +5,14 @@ ghost use Rattle.refusals.specs.Answer.{verdictOf};
 ghost use Rattle.record.specs.Record.{infoOf, groupAbove15};
 ghost use Rattle.record.specs.Fits.{QuarterOf};
 ghost use Rattle.record.specs.Calls.{writeRefusals, packedOf};
-use crate::flags::bit;
-use crate::flags::by_25;
 use crate::judging::judge;
 use crate::types::Groups;
 use crate::types::Packed;
 use crate::types::Record;
-use clock::Flag;
-use clock::Rate;
+use layout::bit;
+use layout::by_25;
+use rates::Flag;
+use rates::Rate;
 use refusals::Verdict;
 
 fn has_high_group(g: Groups) -> bool

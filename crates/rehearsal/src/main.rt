@@ -1,35 +1,22 @@
-// The rehearsal: answers each line of its input, a request for the clock, for a code word or for the reader, by a line of its output.
+// The rehearsal: answers each line of its input, a request, by a line of its output.
 // What is quoted in this crate is docs/REHEARSAL.md.
 // Here are the pieces and lines of the input, and the writing of the answers.
 //
-// requests         which request a line is
-// clock_requests   the calls of the clock, and the constructors of its four kinds
-// word_requests    reads and writes of linear words, lines and packets
-// reader_requests  a step, a block
-// fields           taking a line apart, and the numbers in it
-// elements         the runs in it
-// types            what the requests are made of, and what is told of them
-// values           from the numbers of a request to what the calls take
-// printing         words, numbers, records and runs into the answers
+// families   which family of requests a line belongs to, and its answer
+// types      how far the reading is
 ghost use mathlib.Core.Path.{_≡_};
 ghost use mathlib.Core.Bool.{true};
 ghost use Prim.Native.Nat.{_<_};
 
-mod clock_requests;
-mod elements;
-mod fields;
-mod printing;
-mod reader_requests;
-mod requests;
+mod families;
 mod types;
-mod values;
-mod word_requests;
 
+use answers::put;
+use families::answer;
+use families::put_unknown;
 use libc::STDIN_FILENO;
 use libc::STDOUT_FILENO;
-use printing::put;
-use printing::put_unknown;
-use requests::answer;
+use requests::LONGEST_LINE;
 use types::End;
 use types::Progress;
 
@@ -128,8 +115,7 @@ fn take_all(line: &mut [u8]) -> End
 }
 
 fn main() {
-    // "a line has at most 2,000 characters"
-    let mut line = [0u8; 2000];
+    let mut line = [0u8; LONGEST_LINE];
     let end = take_all(&mut line);
     let length = end.length;
     // A last line that no line feed ends.

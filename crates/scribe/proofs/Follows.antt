@@ -10,14 +10,14 @@ use lib.Seq.{drop-drop, take-all}
 use Rattle.bits.specs.Bits.{AllBits}
 use Rattle.bits.proofs.Bit.{within-drop}
 use Rattle.runs.specs.Run.{placed}
-use Rattle.reader.specs.declared.types.Reader.{Reader}
-use Rattle.reader.specs.Reach.{fed, answers}
+use Rattle.register.specs.declared.types.Reader.{Reader}
+use Rattle.following.specs.Reach.{fed, answers}
 use Rattle.reader.specs.Feeding.{Passing}
-use Rattle.reader.proofs.OneBlock.{taken-within}
-use Rattle.lines.specs.Gathered.{outAfter}
-use Rattle.lines.proofs.Laid.{placed-none, placed-length, laid-two}
-use Rattle.lines.proofs.Appends.{stands}
-use Rattle.lines.proofs.Spelled.{line-short}
+use Rattle.following.proofs.OneBlock.{taken-within}
+use Rattle.text.specs.Gathered.{outAfter}
+use Rattle.text.proofs.Laid.{placed-none, placed-length, laid-two}
+use Rattle.text.proofs.Appends.{stands}
+use Rattle.lines.proofs.Short.{line-short}
 use Rattle.scribe.specs.declared.types.Block.{Block}
 use Rattle.scribe.specs.Told.{linesOf}
 use Rattle.scribe.specs.Blocks.{blockOf, bitsAfter, lineOfBlock, blockTold, runTold}

@@ -12,16 +12,16 @@ use Rattle.runs.proofs.Written.{unchanged}
 use Rattle.refusals.specs.declared.types.Verdict.{Verdict}
 use Rattle.refusals.specs.declared.types.Verdict.the-variants.{Sound, Refused as Unsound}
 use Rattle.modes.specs.Modes.{unknown}
-use Rattle.reader.specs.declared.types.Reader.{Reader}
+use Rattle.register.specs.declared.types.Reader.{Reader}
 use Rattle.reader.specs.declared.types.Heard.the-variants.{Nothing}
 use Rattle.reader.specs.declared.types.Blocked.{Blocked}
-use Rattle.reader.specs.Held.{unreached}
+use Rattle.register.specs.Held.{unreached}
 use Rattle.reader.specs.Blocks.{going, blockedOf}
 use Rattle.reader.specs.Feeding.{Passing}
+use Rattle.characters.specs.Characters.{bitsIn}
 use Rattle.scribe.specs.declared.types.Scribe.{Scribe}
 use Rattle.scribe.specs.declared.types.Telling.{Telling}
 use Rattle.scribe.specs.declared.types.Told.the-variants.{Lines, Refused}
-use Rattle.scribe.specs.Characters.{bitsIn}
 use Rattle.scribe.specs.Told.{counted, textOf, tellingOf, tellRefusals, toldOf, charactersAfter, outOf, ToldOf}
 use Rattle.scribe.specs.Blocks.{verdictIn}
 

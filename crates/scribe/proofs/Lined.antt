@@ -8,15 +8,15 @@ use native.Mathlib.Omega.{arith}
 use lib.ListN.{length, drop, replicate, length-drop}
 use lib.Seq.{take-all}
 use Rattle.bits.specs.Bits.{AllBits}
-use Rattle.reader.specs.declared.types.Reader.{Reader}
+use Rattle.register.specs.declared.types.Reader.{Reader}
 use Rattle.reader.specs.declared.types.Heard.{Heard}
 use Rattle.reader.specs.declared.types.Heard.the-variants.{Nothing, Accepted, Refused}
 use Rattle.reader.specs.declared.types.Blocked.{Blocked}
 use Rattle.reader.specs.Blocks.{isAnswer, blockedOf}
-use Rattle.reader.specs.Reach.{fed, answers}
-use Rattle.reader.specs.Cuts.{said, Cut, cutBlock}
+use Rattle.following.specs.Reach.{fed, answers}
+use Rattle.following.specs.Cuts.{said, Cut, cutBlock}
 use Rattle.reader.specs.Feeding.{Passing}
-use Rattle.reader.proofs.OneBlock.{next-passing, block-then-fed, block-then-answers, rest-shorter}
+use Rattle.following.proofs.OneBlock.{next-passing, block-then-fed, block-then-answers, rest-shorter}
 use Rattle.lines.specs.Lines.{lineOf}
 use Rattle.scribe.specs.Told.{oneOn, linesOf}
 use Rattle.scribe.specs.Blocks.{blockOf, bitsAfter, lineOfBlock}

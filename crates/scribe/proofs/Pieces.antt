@@ -12,13 +12,13 @@ use Rattle.bits.specs.Bits.{toBits, howMany}
 use Rattle.runs.specs.Run.{placed}
 use Rattle.runs.proofs.Same.{both-true}
 use Rattle.modes.specs.Modes.{unknown}
-use Rattle.reader.specs.Held.{unreached}
+use Rattle.register.specs.Held.{unreached}
 use Rattle.reader.specs.Feeding.{Passing}
-use Rattle.reader.proofs.Passing.{fed-passing}
+use Rattle.following.proofs.Passing.{fed-passing}
+use Rattle.characters.specs.Characters.{bitsIn, goesOn}
 use Rattle.scribe.specs.declared.types.Scribe.{Scribe}
 use Rattle.scribe.specs.declared.types.Told.{Told}
 use Rattle.scribe.specs.declared.types.Told.the-variants.{Lines}
-use Rattle.scribe.specs.Characters.{bitsIn, goesOn}
 use Rattle.scribe.specs.Told.{counted, textOf, leftAfter, scribeAfter, tellingOf, toldOf, outOf, ToldOf, Brought, fresh, piece}
 
 -- the reader of a scribe that pieces of characters bring about is sound

@@ -12,17 +12,17 @@ use borrow.Author.Tests.{ltb-true, ltb-false, eqb-true}
 use Rattle.bits.specs.Bits.{AllBits, someAbove}
 use Rattle.bits.proofs.Bit.{within-cons}
 use Rattle.runs.specs.Run.{placed}
-use Rattle.reader.specs.Reach.{answers}
-use Rattle.lines.specs.Lines.{zeroDigit}
-use Rattle.lines.proofs.Laid.{starts-within}
+use Rattle.following.specs.Reach.{answers}
+use Rattle.text.specs.Ascii.{zeroDigit}
+use Rattle.text.proofs.Laid.{starts-within}
+use Rattle.characters.specs.declared.types.Sifted.{Sifted}
+use Rattle.characters.specs.Characters.{isSkipped, isDigit, oneDigit, bitsIn, goesOn, siftedOf}
+use Rattle.characters.proofs.Sifts.{few-bits}
 use Rattle.scribe.specs.declared.types.Scribe.{Scribe}
-use Rattle.scribe.specs.declared.types.Sifted.{Sifted}
 use Rattle.scribe.specs.declared.types.Block.{Block}
-use Rattle.scribe.specs.Characters.{isSkipped, isDigit, oneDigit, bitsIn, goesOn, siftedOf}
 use Rattle.scribe.specs.Told.{counted, linesOf, textOf, leftAfter, scribeAfter, tellingOf}
 use Rattle.scribe.specs.Blocks.{runTold}
 use Rattle.scribe.specs.Loops.{Ready}
-use Rattle.scribe.proofs.Sifts.{few-bits}
 
 -- a character 0 or 1 is the bit 0 or 1
 digit-low : (c : ℕ) → isDigit c ≡ true → c - zeroDigit ≤ 1

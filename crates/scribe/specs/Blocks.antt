@@ -5,14 +5,14 @@ use mathlib.Core.List.{List}
 use lib.ListN.{length}
 use Rattle.refusals.specs.declared.types.Verdict.{Verdict}
 use Rattle.refusals.specs.declared.types.Verdict.the-variants.{Sound, Refused as Unsound}
-use Rattle.reader.specs.declared.types.Reader.{Reader}
+use Rattle.register.specs.declared.types.Reader.{Reader}
 use Rattle.reader.specs.declared.types.Heard.{Heard}
 use Rattle.reader.specs.declared.types.Heard.the-variants.{Nothing, Accepted, Refused}
 use Rattle.reader.specs.declared.types.Blocked.{Blocked}
 use Rattle.reader.specs.Blocks.{blockedOf}
-use Rattle.reader.specs.Reach.{fed, answers}
+use Rattle.following.specs.Reach.{fed, answers}
+use Rattle.text.specs.Gathered.{placeAfter}
 use Rattle.lines.specs.Lines.{lineOf}
-use Rattle.lines.specs.Gathered.{placeAfter}
 use Rattle.scribe.specs.declared.types.Block.{Block}
 use Rattle.scribe.specs.Told.{linesOf}
 

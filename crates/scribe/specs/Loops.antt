@@ -1,24 +1,15 @@
--- What holds where a call is made, and at each turn of the loops, over plain values.
+-- What holds where a call is made, and at each turn of the loop, over plain values.
 -- Assumes nothing.
 use Prim.Native.Nat.{ℕ, _+_, _*_, _%_, _^_, _≤_}
 use mathlib.Core.Path.{_≡_}
-use mathlib.Core.Bool.{true}
 use mathlib.Core.List.{List, _++_}
-use lib.ListN.{length, take, drop}
+use lib.ListN.{length, drop}
 use Rattle.bits.specs.Bits.{AllBits}
 use Rattle.runs.specs.Run.{placed}
-use Rattle.reader.specs.declared.types.Reader.{Reader}
-use Rattle.reader.specs.Reach.{fed, answers}
+use Rattle.register.specs.declared.types.Reader.{Reader}
+use Rattle.following.specs.Reach.{fed, answers}
 use Rattle.reader.specs.Feeding.{Passing}
-use Rattle.scribe.specs.Characters.{bitsIn, goesOn}
 use Rattle.scribe.specs.Told.{linesOf}
-
--- sifting: the bits of the characters read stand at the start, and the rest is as it was
-pub record Sifting (whole run : List ℕ) (read write : ℕ) : Type 0 where
-  pub within : read ≤ length whole
-  pub onward : goesOn (take read whole) ≡ true
-  pub kept : write ≡ length (bitsIn (take read whole))
-  pub so-far : run ≡ placed 0 (bitsIn (take read whole)) whole
 
 -- a sound reader, and room for a line for each element
 pub record Ready (reader : Reader) (run out : List ℕ) : Type 0 where

@@ -11,15 +11,15 @@ use Rattle.refusals.specs.Table.{no-room}
 use Rattle.refusals.specs.Answer.{Refusal, _when_, answer}
 use Rattle.runs.specs.Run.{noRoom, runAfter}
 use Rattle.reader.specs.declared.types.Heard.{Heard}
-use Rattle.reader.specs.Held.{freshOf}
+use Rattle.register.specs.Held.{freshOf}
 use Rattle.reader.specs.Steps.{readerRefusals}
-use Rattle.reader.specs.Reach.{fed, answers}
+use Rattle.following.specs.Reach.{fed, answers}
 use Rattle.lines.specs.Lines.{lineOf}
+use Rattle.characters.specs.Characters.{bitsIn, goesOn}
 use Rattle.scribe.specs.declared.types.Scribe.{Scribe}
 use Rattle.scribe.specs.declared.types.Telling.{Telling}
 use Rattle.scribe.specs.declared.types.Told.{Told}
 use Rattle.scribe.specs.declared.types.Told.the-variants.{Lines, Refused}
-use Rattle.scribe.specs.Characters.{bitsIn, goesOn}
 
 -- "in mode 2", no bits so far, "16,777,216 characters in all"
 abbrev pub freshScribe : Scribe

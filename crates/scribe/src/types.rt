@@ -1,4 +1,4 @@
-use reader::Reader;
+use register::Reader;
 
 // A reader, the bits so far, and how many characters may still come: none once the reading has ended.
 pub struct Scribe {
@@ -16,12 +16,6 @@ pub struct Telling {
 pub enum Told {
     Lines(Telling),
     Refused(u8),
-}
-
-// How many bits now stand at the start of the run, and whether no character in it ends the reading.
-pub struct Sifted {
-    pub bits: usize,
-    pub more: bool,
 }
 
 // A reader and the bits so far, how many bits of the run were taken, and the place after the lines so far.

@@ -1,7 +1,7 @@
 -- `readout::end` is safe and ends: the last line lies within its text.
 -- Assumes nothing.
 use borrow.Author.Needs.{needs}
-use Rattle.lines.proofs.Laid.{told-within, prefix-length}
+use Rattle.text.proofs.Laid.{told-within, prefix-length}
 use Rattle.readout.proofs.end.Statement.{statement}
 use Rattle.readout.proofs.end.Tie as tie
 

@@ -1,11 +1,11 @@
 -- `atc::reading::byte_in` meets its contract. At each turn the number is what the words from the i-th on hold; what is left to do is i.
 -- Assumes nothing.
-use Prim.Native.Nat.{ℕ, _-_, _^_, _≤_, _<_}
+use Prim.Native.Nat.{ℕ, _^_, _≤_, _<_}
 use native.Mathlib.Omega.{arith}
 use mathlib.Core.List.{List}
 use lib.ListN.{length}
 use borrow.Author.Needs.{needs}
-use Rattle.atc.specs.Words.{bitIn}
+use Rattle.words.specs.Words.{bitIn}
 use Rattle.atc.specs.Loops.{Gathering}
 use Rattle.atc.proofs.Turns.{gather-begins, gather-room, gather-turns, gather-ends}
 use Rattle.atc.proofs.reading.byte_in.Statement.{statement}

@@ -2,24 +2,26 @@
 -- Assumes nothing.
 use mathlib.Core.Path.{_≡_, ap, _∙_}
 use mathlib.Core.Bool.{Bool}
-use Prim.Native.Nat.{ℕ, _<_}
+use Prim.Native.Nat.{ℕ, _+_, _-_, _<_}
 use native.Mathlib.Omega.{arith}
 use lib.IntN.{ℤ}
 use mir.Facts.{toZ-ofZ}
 use borrow.Author.Needs.{needs}
-use Rattle.clock.specs.declared.types.Rate.{Rate}
-use Rattle.clock.specs.declared.types.Flag.{Flag}
-use Rattle.clock.specs.declared.types.Address.{Address}
+use Rattle.rates.specs.declared.types.Rate.{Rate}
+use Rattle.rates.specs.declared.types.Flag.{Flag}
+use Rattle.rates.specs.declared.types.Address.{Address}
 use Rattle.refusals.specs.Answer.{verdictOf}
+use Rattle.round.specs.Round.{sumOf}
+use Rattle.round.proofs.Round.{sum-below}
 use Rattle.refusals.specs.declared.types.Verdict.{Verdict}
 use Rattle.refusals.specs.declared.types.Verdict.the-variants.{Sound, Refused as Unsound}
 use Rattle.clock.specs.declared.types.Placed.the-variants.{At, Refused as Unplaced}
-use Rattle.clock.specs.Rates.{isYes, framesInSecond, framesInDay}
-use Rattle.clock.specs.Counting.{countOf, addressAt, sumOf}
-use Rattle.clock.specs.Calls.{refusalsOf, plusOf}
+use Rattle.rates.specs.Rates.{isYes, framesInSecond, framesInDay}
+use Rattle.clock.specs.Counting.{countOf, addressAt}
+use Rattle.rates.specs.Refused.{refusalsOf}
+use Rattle.clock.specs.Calls.{plusOf}
 use Rattle.refusals.proofs.Verdicts.{refused-by, passed-by}
-use Rattle.clock.proofs.Round.{sum-below}
-use Rattle.clock.proofs.Sizes.{some-day, day-small, count-small}
+use Rattle.rates.proofs.Sizes.{some-day, day-small, last-and-one}
 use Rattle.clock.proofs.addresses.add.Statement.{statement}
 use Rattle.clock.proofs.addresses.add.Tie as tie
 
@@ -30,16 +32,17 @@ module _ (rate : Rate) (drop : Flag) (a : Address) (z : ℤ) (found : Verdict) (
 
   moved :
       (dropped : Bool) (day m n : ℕ) (y : ℤ) (b : Address) → dropped ≡ isYes drop → day ≡ framesInDay rate dropped
-      → m ≡ countOf (framesInSecond rate) dropped a → n ≡ sumOf day m y → y ≡ z → b ≡ addressAt (framesInSecond rate) dropped n
+      → m ≡ countOf (framesInSecond rate) dropped a → n ≡ sumOf (day - 1 + 1) m y → y ≡ z → b ≡ addressAt (framesInSecond rate) dropped n
       → found ≡ Sound → At b ≡ plusOf rate drop a z
   unfolding plusOf
   moved dropped day m n y b asked whole number total same e sound =
-      ap At (e ∙ rw (total, same, number, whole, asked)) ∙ passed-by Unplaced _ (refusalsOf rate drop a) found judged sound
+      ap At (e ∙ rw (total, same, last-and-one rate day dropped whole, number, whole, asked)) ∙ passed-by Unplaced _ (refusalsOf rate drop a) found judged sound
 
 below :
-    (rate : Rate) (day m n : ℕ) (drop : Bool) (z : ℤ) → day ≡ framesInDay rate drop → n ≡ sumOf day m z → n < 2592000
+    (rate : Rate) (day m n : ℕ) (drop : Bool) (z : ℤ) → day ≡ framesInDay rate drop → n ≡ sumOf (day - 1 + 1) m z → n < 2592000
 below rate day m n drop z whole e =
-    omega (arith, day-small rate day drop whole, sum-below day (some-day rate day drop whole) m z)
+    let some = some-day rate day drop whole in
+    omega (arith, day-small rate day drop whole, sum-below (day - 1 + 1) (omega arith) m z)
 
 judge-requires : tie.Need-judge-requires
 judge-requires c κs = search needs
@@ -56,11 +59,14 @@ is-yes-requires c κs = search needs
 frames-in-day-requires : tie.Need-frames-in-day-requires
 frames-in-day-requires c κs = search needs
 
+sub-last : tie.Need-sub-last
+sub-last c = search some-day
+
 count-requires : tie.Need-count-requires
 count-requires c κs = search needs
 
 sum-requires : tie.Need-sum-requires
-sum-requires c κs = (search some-day, (search day-small, search (count-small, needs)))
+sum-requires c κs = search needs
 
 address-at-requires : tie.Need-address-at-requires
 address-at-requires c κs = search below
@@ -80,6 +86,7 @@ add-spec =
     enum-told
     is-yes-requires
     frames-in-day-requires
+    sub-last
     count-requires
     sum-requires
     address-at-requires

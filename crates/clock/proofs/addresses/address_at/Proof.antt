@@ -8,10 +8,11 @@ use native.Mathlib.Omega.{arith}
 use mir.Syntax.{w8}
 use mir.Val.{Fits}
 use borrow.Author.Needs.{needs}
-use Rattle.clock.specs.declared.types.Rate.{Rate}
-use Rattle.clock.specs.Rates.{framesInSecond}
+use Rattle.rates.specs.declared.types.Rate.{Rate}
+use Rattle.rates.specs.Rates.{framesInSecond}
 use Rattle.clock.specs.Counting.{placeAt, faceAt, addressAt}
-use Rattle.clock.proofs.Sizes.{rate-large, rate-small, some-rate, placeAt-small, hours-small}
+use Rattle.rates.proofs.Sizes.{rate-large, rate-small, some-rate}
+use Rattle.clock.proofs.Sizes.{placeAt-small, hours-small}
 use Rattle.clock.proofs.addresses.address_at.Statement.{statement}
 use Rattle.clock.proofs.addresses.address_at.Tie as tie
 

@@ -3,14 +3,15 @@
 use mathlib.Core.Path.{_≡_}
 use Prim.Native.Nat.{ℕ}
 use borrow.Author.Needs.{needs}
-use Rattle.clock.specs.declared.types.Rate.{Rate}
-use Rattle.clock.specs.declared.types.Flag.{Flag}
-use Rattle.clock.specs.declared.types.Address.{Address}
+use Rattle.rates.specs.declared.types.Rate.{Rate}
+use Rattle.rates.specs.declared.types.Flag.{Flag}
+use Rattle.rates.specs.declared.types.Address.{Address}
 use Rattle.refusals.specs.Answer.{verdictOf}
 use Rattle.refusals.specs.declared.types.Verdict.{Verdict}
 use Rattle.refusals.specs.declared.types.Verdict.the-variants.{Sound, Refused as Unsound}
 use Rattle.clock.specs.declared.types.Placed.the-variants.{At, Refused as Unplaced}
-use Rattle.clock.specs.Calls.{refusalsOf, fieldsOf}
+use Rattle.rates.specs.Refused.{refusalsOf}
+use Rattle.clock.specs.Calls.{fieldsOf}
 use Rattle.refusals.proofs.Verdicts.{refused-by, passed-by}
 use Rattle.clock.proofs.addresses.address_from.Statement.{statement}
 use Rattle.clock.proofs.addresses.address_from.Tie as tie

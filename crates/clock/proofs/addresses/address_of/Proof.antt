@@ -3,19 +3,18 @@
 use mathlib.Core.Path.{_≡_, ap, _∙_}
 use mathlib.Core.Bool.{Bool, true, false, not, _&&_}
 use Prim.Native.Nat.{ℕ, _≤_, _<_}
-use native.Mathlib.Nat.{le-of-lt}
 use native.Mathlib.Omega.{arith}
 use borrow.Author.Tests.{le-leb, lt-leb}
 use borrow.Author.Needs.{needs}
-use Rattle.clock.specs.declared.types.Rate.{Rate}
-use Rattle.clock.specs.declared.types.Flag.{Flag}
-use Rattle.clock.specs.declared.types.Address.{Address}
+use Rattle.rates.specs.declared.types.Rate.{Rate}
+use Rattle.rates.specs.declared.types.Flag.{Flag}
+use Rattle.rates.specs.declared.types.Address.{Address}
 use Rattle.clock.specs.declared.types.DayFrame.{DayFrame}
 use Rattle.clock.specs.declared.types.Placed.the-variants.{At, Refused as Unplaced}
-use Rattle.clock.specs.Rates.{isYes, framesInSecond, framesInDay, mayDrop}
+use Rattle.rates.specs.Rates.{isYes, framesInSecond, framesInDay, mayDrop}
 use Rattle.clock.specs.Counting.{addressAt}
 use Rattle.clock.specs.Calls.{addressOf}
-use Rattle.clock.proofs.Sizes.{day-small}
+use Rattle.rates.proofs.Sizes.{day-small}
 use Rattle.clock.proofs.addresses.address_of.Statement.{statement}
 use Rattle.clock.proofs.addresses.address_of.Tie as tie
 
@@ -49,7 +48,7 @@ frames-in-day-requires : tie.Need-frames-in-day-requires
 frames-in-day-requires c κs = search needs
 
 returns-2 : tie.Need-returns-2
-returns-2 c = search (past-the-day, le-of-lt)
+returns-2 c = search (past-the-day)
 
 address-at-requires : tie.Need-address-at-requires
 address-at-requires c κs = search below

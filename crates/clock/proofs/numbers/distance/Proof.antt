@@ -2,22 +2,29 @@
 -- Assumes nothing.
 use mathlib.Core.Path.{_≡_, ap, _∙_}
 use mathlib.Core.Bool.{Bool}
-use Prim.Native.Nat.{ℕ}
+use Prim.Native.Nat.{ℕ, _+_, _-_, _<_}
+use native.Mathlib.Omega.{arith}
 use lib.IntN.{ℤ}
+use mir.Syntax.{w32, w64}
+use mir.Val.{SFits, toZ, ofZ}
 use mir.Facts.{toZ-ofZ}
 use borrow.Author.Needs.{needs}
-use Rattle.clock.specs.declared.types.Rate.{Rate}
-use Rattle.clock.specs.declared.types.Flag.{Flag}
-use Rattle.clock.specs.declared.types.Address.{Address}
+use Rattle.rates.specs.declared.types.Rate.{Rate}
+use Rattle.rates.specs.declared.types.Flag.{Flag}
+use Rattle.rates.specs.declared.types.Address.{Address}
 use Rattle.refusals.specs.Answer.{verdictOf}
+use Rattle.round.specs.Round.{distanceOf}
+use Rattle.round.proofs.Sizes.{distance-small}
 use Rattle.refusals.specs.declared.types.Verdict.{Verdict}
 use Rattle.refusals.specs.declared.types.Verdict.the-variants.{Sound, Refused as Unsound}
 use Rattle.clock.specs.declared.types.Span.the-variants.{Frames, Refused as Unmeasured}
-use Rattle.clock.specs.Rates.{isYes, framesInSecond, framesInDay}
-use Rattle.clock.specs.Counting.{countOf, distanceOf}
-use Rattle.clock.specs.Calls.{refusalsOfTwo, spanOf}
+use Rattle.rates.specs.Rates.{isYes, framesInSecond, framesInDay}
+use Rattle.clock.specs.Counting.{countOf}
+use Rattle.rates.specs.Refused.{refusalsOfTwo}
+use Rattle.clock.specs.Calls.{spanOf}
 use Rattle.refusals.proofs.Verdicts.{refused-by, passed-by}
-use Rattle.clock.proofs.Sizes.{day-small, count-small}
+use Rattle.rates.proofs.Sizes.{day-small, some-day, last-and-one}
+use Rattle.clock.proofs.Sizes.{count-small}
 use Rattle.clock.proofs.numbers.distance.Statement.{statement}
 use Rattle.clock.proofs.numbers.distance.Tie as tie
 
@@ -27,13 +34,24 @@ module _
   unfolding spanOf
   refused n e = refused-by Unmeasured _ (refusalsOfTwo rate drop from to) found judged n e
 
+  -- the distance is told as it was measured: it fits 64 bits, and 32
   measured :
-      (dropped : Bool) (day m n : ℕ) (z y : ℤ) → dropped ≡ isYes drop → day ≡ framesInDay rate dropped
-      → m ≡ countOf (framesInSecond rate) dropped from → n ≡ countOf (framesInSecond rate) dropped to
-      → z ≡ distanceOf day m n → y ≡ z → found ≡ Sound → Frames y ≡ spanOf rate drop from to
+      (day m n : ℕ) (dropped : Bool) (z : ℤ) → SFits w64 z → SFits w32 z → z ≡ distanceOf (day - 1 + 1) m n → day ≡ framesInDay rate dropped
+      → m ≡ countOf (framesInSecond rate) dropped from → n ≡ countOf (framesInSecond rate) dropped to → dropped ≡ isYes drop → found ≡ Sound
+      → Frames (toZ w32 (ofZ w32 (toZ w64 (ofZ w64 z)))) ≡ spanOf rate drop from to
   unfolding spanOf
-  measured dropped day m n z y asked whole first second e same sound =
-      ap Frames (same ∙ e ∙ rw (whole, first, second, asked)) ∙ passed-by Unmeasured _ (refusalsOfTwo rate drop from to) found judged sound
+  measured day m n dropped z wide narrow e whole first second asked sound =
+      let same : toZ w32 (ofZ w32 (toZ w64 (ofZ w64 z))) ≡ z = rw (toZ-ofZ wide) (toZ-ofZ narrow) in
+      ap Frames (same ∙ e ∙ rw (last-and-one rate day dropped whole, whole, first, second, asked))
+      ∙ passed-by Unmeasured _ (refusalsOfTwo rate drop from to) found judged sound
+
+-- the distance of two addresses fits 32 bits
+narrow :
+    (rate : Rate) (day m n : ℕ) (drop : Bool) (z : ℤ) → z ≡ distanceOf (day - 1 + 1) m n → day ≡ framesInDay rate drop → m < 30000000 → n < 30000000
+    → SFits w32 z
+narrow rate day m n drop z e whole first second =
+    let whole-day = day-small rate day drop whole in
+    rw e (distance-small (day - 1 + 1) m n (omega arith) (omega arith) (omega arith))
 
 judge-two-requires : tie.Need-judge-two-requires
 judge-two-requires c κs = search needs
@@ -56,14 +74,20 @@ count-requires c κs = search needs
 count-requires-2 : tie.Need-count-requires-2
 count-requires-2 c κs = search needs
 
-between-requires : tie.Need-between-requires
-between-requires c κs = (search day-small, (search (count-small, needs), search (count-small, needs)))
+sub-last : tie.Need-sub-last
+sub-last c = search some-day
+
+distance-requires : tie.Need-distance-requires
+distance-requires c κs = search needs
+
+cast-frames : tie.Need-cast-frames
+cast-frames c = search (narrow, count-small, needs)
 
 returns : tie.Need-returns
 returns c = search refused
 
 returns-2 : tie.Need-returns-2
-returns-2 c = search (measured, toZ-ofZ)
+returns-2 c = search (measured, narrow, count-small, needs)
 
 pub distance-spec : {M : Type 1} → statement M
 distance-spec =
@@ -74,8 +98,10 @@ distance-spec =
     enum-told
     is-yes-requires
     frames-in-day-requires
+    sub-last
     count-requires
     count-requires-2
-    between-requires
+    distance-requires
+    cast-frames
     returns
     returns-2)

@@ -4,17 +4,18 @@ use mathlib.Core.Path.{_≡_, ap, _∙_}
 use mathlib.Core.Bool.{Bool}
 use Prim.Native.Nat.{ℕ}
 use borrow.Author.Needs.{needs}
-use Rattle.clock.specs.declared.types.Rate.{Rate}
-use Rattle.clock.specs.declared.types.Flag.{Flag}
-use Rattle.clock.specs.declared.types.Address.{Address}
+use Rattle.rates.specs.declared.types.Rate.{Rate}
+use Rattle.rates.specs.declared.types.Flag.{Flag}
+use Rattle.rates.specs.declared.types.Address.{Address}
 use Rattle.clock.specs.declared.types.DayFrame.{DayFrame}
 use Rattle.refusals.specs.Answer.{verdictOf}
 use Rattle.refusals.specs.declared.types.Verdict.{Verdict}
 use Rattle.refusals.specs.declared.types.Verdict.the-variants.{Sound, Refused as Unsound}
 use Rattle.clock.specs.declared.types.Numbered.the-variants.{Number, Refused as Unnumbered}
-use Rattle.clock.specs.Rates.{isYes, framesInSecond}
+use Rattle.rates.specs.Rates.{isYes, framesInSecond}
 use Rattle.clock.specs.Counting.{countOf}
-use Rattle.clock.specs.Calls.{refusalsOf, numberOf}
+use Rattle.rates.specs.Refused.{refusalsOf}
+use Rattle.clock.specs.Calls.{numberOf}
 use Rattle.refusals.proofs.Verdicts.{refused-by, passed-by}
 use Rattle.clock.proofs.numbers.number_of.Statement.{statement}
 use Rattle.clock.proofs.numbers.number_of.Tie as tie

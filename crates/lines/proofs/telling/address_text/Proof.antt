@@ -5,7 +5,8 @@ use Prim.Native.Nat.{ℕ}
 use mathlib.Core.Path.{_≡_, ap, _∙_}
 use mathlib.Core.List.{List, _∷_, _++_}
 use Rattle.record.specs.declared.types.Record.{Record}
-use Rattle.lines.specs.Lines.{space, colon, twoDigits, beforeFrames, addressText}
+use Rattle.text.specs.Ascii.{space}
+use Rattle.lines.specs.Lines.{colon, twoDigits, beforeFrames, addressText}
 use Rattle.lines.proofs.telling.address_text.Statement.{statement}
 use Rattle.lines.proofs.telling.address_text.Tie as tie
 

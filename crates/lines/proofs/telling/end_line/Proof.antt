@@ -7,9 +7,11 @@ use mathlib.Core.List.{List, [], _∷_, _++_}
 use native.Mathlib.Omega.{arith}
 use lib.ListN.{length}
 use Rattle.runs.specs.Run.{placed}
-use Rattle.lines.specs.Lines.{space, lineFeed, decimal, theWordEnd, endLineOf}
-use Rattle.lines.proofs.Appends.{Appended, three-stand}
-use Rattle.lines.proofs.Spelled.{at-most}
+use Rattle.text.specs.Ascii.{space, lineFeed}
+use Rattle.text.specs.Numerals.{decimal}
+use Rattle.text.proofs.Appends.{Appended, three-stand}
+use Rattle.text.proofs.Spelled.{at-most}
+use Rattle.lines.specs.Lines.{theWordEnd, endLineOf}
 use Rattle.lines.proofs.telling.end_line.Statement.{statement}
 use Rattle.lines.proofs.telling.end_line.Tie as tie
 

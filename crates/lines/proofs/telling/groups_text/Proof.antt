@@ -5,7 +5,9 @@ use Prim.Native.Nat.{ℕ}
 use mathlib.Core.Path.{_≡_}
 use mathlib.Core.List.{[], _∷_, _++_}
 use Rattle.record.specs.declared.types.Groups.{Groups}
-use Rattle.lines.specs.Lines.{space, lineFeed, hexDigit, groupsText}
+use Rattle.text.specs.Ascii.{space, lineFeed}
+use Rattle.text.specs.Numerals.{hexDigit}
+use Rattle.lines.specs.Lines.{groupsText}
 use Rattle.lines.proofs.telling.groups_text.Statement.{statement}
 use Rattle.lines.proofs.telling.groups_text.Tie as tie
 

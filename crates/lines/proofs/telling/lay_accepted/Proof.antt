@@ -6,8 +6,9 @@ use mathlib.Core.Path.{_≡_}
 use mathlib.Core.List.{List, [], _∷_, _++_}
 use lib.ListN.{length}
 use Rattle.record.specs.declared.types.Record.{Record}
-use Rattle.lines.specs.Lines.{space, lineFeed, addressText, groupsText, acceptedText}
-use Rattle.lines.proofs.Appends.{Appended, Stands, two-stand}
+use Rattle.text.specs.Ascii.{space, lineFeed}
+use Rattle.text.proofs.Appends.{Appended, Stands, two-stand}
+use Rattle.lines.specs.Lines.{addressText, groupsText, acceptedText}
 use Rattle.lines.proofs.telling.lay_accepted.Statement.{statement}
 use Rattle.lines.proofs.telling.lay_accepted.Tie as tie
 

@@ -5,9 +5,11 @@ use Prim.Native.Nat.{ℕ, _+_, _≤_, _<_}
 use mathlib.Core.List.{List, [], _∷_, _++_}
 use native.Mathlib.Omega.{arith}
 use lib.ListN.{length}
-use Rattle.lines.specs.Lines.{space, lineFeed, decimal, theWordRefused, refusedText}
-use Rattle.lines.proofs.Appends.{Appended, Stands, three-stand}
-use Rattle.lines.proofs.Spelled.{few-digits}
+use Rattle.text.specs.Ascii.{space, lineFeed}
+use Rattle.text.specs.Numerals.{decimal}
+use Rattle.text.proofs.Appends.{Appended, Stands, three-stand}
+use Rattle.text.proofs.Spelled.{few-digits}
+use Rattle.lines.specs.Lines.{theWordRefused, refusedText}
 use Rattle.lines.proofs.telling.lay_refused.Statement.{statement}
 use Rattle.lines.proofs.telling.lay_refused.Tie as tie
 

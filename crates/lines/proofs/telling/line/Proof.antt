@@ -10,10 +10,11 @@ use Rattle.record.specs.declared.types.Record.{Record}
 use Rattle.reader.specs.declared.types.Heard.{Heard}
 use Rattle.reader.specs.declared.types.Heard.the-variants.{Nothing, Accepted, Refused}
 use Rattle.runs.specs.Run.{placed}
-use Rattle.lines.specs.Lines.{decimal, acceptedText, refusedText, lineOf}
-use Rattle.lines.proofs.Laid.{placed-none, laid-two}
-use Rattle.lines.proofs.Appends.{Appended, Stands, stands}
-use Rattle.lines.proofs.Spelled.{at-most}
+use Rattle.text.specs.Numerals.{decimal}
+use Rattle.text.proofs.Laid.{placed-none, laid-two}
+use Rattle.text.proofs.Appends.{Appended, Stands, stands}
+use Rattle.text.proofs.Spelled.{at-most}
+use Rattle.lines.specs.Lines.{acceptedText, refusedText, lineOf}
 use Rattle.lines.proofs.telling.line.Statement.{statement}
 use Rattle.lines.proofs.telling.line.Tie as tie
 

@@ -4,8 +4,8 @@ use Prim.Native.Nat.{ℕ, _+_, _^_}
 use mathlib.Core.Path.{_≡_}
 use mathlib.Core.Bool.{Bool, true, false, cond}
 use borrow.Author.Needs.{needs}
-use Rattle.clock.specs.declared.types.Rate.{Rate}
-use Rattle.record.specs.Flags.{places}
+use Rattle.rates.specs.declared.types.Rate.{Rate}
+use Rattle.layout.specs.Flags.{places}
 use Rattle.ltc.specs.Word.{wordWith, oddZeros}
 use Rattle.ltc.proofs.writing.corrected.Statement.{statement}
 use Rattle.ltc.proofs.writing.corrected.Tie as tie

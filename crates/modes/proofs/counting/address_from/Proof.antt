@@ -4,9 +4,9 @@ use mathlib.Core.Path.{_≡_}
 use mathlib.Core.Bool.{Bool, true, false}
 use Prim.Native.Nat.{ℕ}
 use borrow.Author.Needs.{needs}
-use Rattle.clock.specs.declared.types.Rate.{Rate}
-use Rattle.clock.specs.declared.types.Flag.{Flag}
-use Rattle.clock.specs.declared.types.Address.{Address}
+use Rattle.rates.specs.declared.types.Rate.{Rate}
+use Rattle.rates.specs.declared.types.Flag.{Flag}
+use Rattle.rates.specs.declared.types.Address.{Address}
 use Rattle.clock.specs.declared.types.Placed.{Placed}
 use Rattle.clock.specs.declared.types.Placed.the-variants.{Refused as Unplaced}
 use Rattle.clock.specs.Calls.{fieldsOf}

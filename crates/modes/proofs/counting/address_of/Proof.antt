@@ -4,8 +4,8 @@ use mathlib.Core.Path.{_≡_}
 use mathlib.Core.Bool.{Bool, true, false}
 use Prim.Native.Nat.{ℕ}
 use borrow.Author.Needs.{needs}
-use Rattle.clock.specs.declared.types.Rate.{Rate}
-use Rattle.clock.specs.declared.types.Flag.{Flag}
+use Rattle.rates.specs.declared.types.Rate.{Rate}
+use Rattle.rates.specs.declared.types.Flag.{Flag}
 use Rattle.clock.specs.declared.types.DayFrame.{DayFrame}
 use Rattle.clock.specs.declared.types.Placed.{Placed}
 use Rattle.clock.specs.declared.types.Placed.the-variants.{Refused as Unplaced}

@@ -4,7 +4,7 @@ use mathlib.Core.Path.{_≡_, _∙_}
 use mathlib.Core.Bool.{Bool, true, false}
 use Prim.Native.Nat.{ℕ}
 use borrow.Author.Needs.{needs}
-use Rattle.clock.specs.declared.types.Rate.{Rate}
+use Rattle.rates.specs.declared.types.Rate.{Rate}
 use Rattle.record.specs.declared.types.Unpacked.{Unpacked}
 use Rattle.record.specs.declared.types.Unpacked.the-variants.{Refused as Unheld}
 use Rattle.record.specs.Calls.{unpackedOf}

@@ -2,7 +2,7 @@
 -- Assumes nothing.
 use mathlib.Core.Path.{_≡_, refl}
 use Prim.Native.Nat.{ℕ, zero, suc}
-use Rattle.clock.specs.declared.types.Rate.the-variants.{At24, At25, At30}
+use Rattle.rates.specs.declared.types.Rate.the-variants.{At24, At25, At30}
 use Rattle.modes.specs.Modes.{rateAt}
 use Rattle.modes.proofs.table.rate_at.Statement.{statement}
 use Rattle.modes.proofs.table.rate_at.Tie as tie

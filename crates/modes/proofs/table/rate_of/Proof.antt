@@ -4,7 +4,7 @@ use mathlib.Core.Path.{_≡_, refl}
 use mathlib.Core.Bool.{Bool, true, false}
 use Prim.Native.Nat.{ℕ}
 use borrow.Author.Needs.{needs}
-use Rattle.clock.specs.declared.types.Rate.{Rate}
+use Rattle.rates.specs.declared.types.Rate.{Rate}
 use Rattle.modes.specs.declared.types.Rated.the-variants.{Known, Refused}
 use Rattle.modes.specs.Modes.{unknown, rateAt, ratedOf}
 use Rattle.modes.proofs.InMode.{turned-away, at-its-rate}

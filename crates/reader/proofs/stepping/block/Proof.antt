@@ -6,10 +6,10 @@ use mathlib.Core.List.{List}
 use Prim.Native.Nat.{ℕ}
 use borrow.Author.Needs.{needs}
 use Rattle.modes.specs.Modes.{unknown}
-use Rattle.reader.specs.declared.types.Reader.{Reader}
+use Rattle.register.specs.declared.types.Reader.{Reader}
 use Rattle.reader.specs.declared.types.Heard.the-variants.{Refused}
 use Rattle.reader.specs.declared.types.Blocked.{Blocked}
-use Rattle.reader.specs.Held.{unreached}
+use Rattle.register.specs.Held.{unreached}
 use Rattle.reader.specs.Blocks.{stopped, going, blockedOf}
 use Rattle.reader.proofs.stepping.block.Statement.{statement}
 use Rattle.reader.proofs.stepping.block.Tie as tie

@@ -8,9 +8,9 @@ use Rattle.record.specs.declared.types.Record.{Record}
 use Rattle.record.specs.declared.types.Unpacked.{Unpacked}
 use Rattle.record.specs.declared.types.Unpacked.the-variants.{Holds, Refused as Unheld}
 use Rattle.ltc.specs.Calls.{heardOf}
-use Rattle.reader.specs.declared.types.Reader.{Reader}
+use Rattle.register.specs.declared.types.Reader.{Reader}
 use Rattle.reader.specs.declared.types.Heard.the-variants.{Nothing, Accepted, Refused}
-use Rattle.reader.specs.Held.{heldBits, unreached}
+use Rattle.register.specs.Held.{heldBits, unreached}
 use Rattle.reader.specs.Steps.{told, heardIn}
 use Rattle.reader.proofs.Answers.{short-hears-nothing, other-hears-nothing, full-hears}
 use Rattle.reader.proofs.stepping.heard.Statement.{statement}

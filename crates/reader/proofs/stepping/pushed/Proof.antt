@@ -5,9 +5,9 @@ use mathlib.Core.Bool.{false}
 use Prim.Native.Nat.{ℕ, _+_, _^_, _≤_, _<_, min}
 use native.Mathlib.Omega.{arith}
 use borrow.Author.Needs.{needs}
-use Rattle.reader.specs.declared.types.Reader.{Reader}
-use Rattle.reader.specs.Held.{heldBits, push, readerWith, unreached}
-use Rattle.reader.proofs.Pushed.{shiftedTo, shifted-is-pushed}
+use Rattle.register.specs.declared.types.Reader.{Reader}
+use Rattle.register.specs.Held.{heldBits, push, readerWith, unreached}
+use Rattle.register.proofs.Pushed.{shiftedTo, shifted-is-pushed}
 use Rattle.reader.proofs.stepping.pushed.Statement.{statement}
 use Rattle.reader.proofs.stepping.pushed.Tie as tie
 

@@ -7,10 +7,10 @@ use native.Mathlib.Omega.{arith}
 use borrow.Author.Tests.{lt-ltb}
 use borrow.Author.Needs.{needs}
 use Rattle.modes.specs.Modes.{unknown}
-use Rattle.reader.specs.declared.types.Reader.{Reader}
+use Rattle.register.specs.declared.types.Reader.{Reader}
 use Rattle.reader.specs.declared.types.Heard.{Heard}
 use Rattle.reader.specs.declared.types.Heard.the-variants.{Refused}
-use Rattle.reader.specs.Held.{heldBits, push, readerWith, unreached}
+use Rattle.register.specs.Held.{heldBits, push, readerWith, unreached}
 use Rattle.reader.specs.Steps.{after, heardIn, steppedOf}
 use Rattle.reader.proofs.Taken.{next-passes, step-taken}
 use Rattle.reader.proofs.stepping.step.Statement.{statement}

@@ -5,10 +5,10 @@ use mathlib.Core.Bool.{Bool}
 use borrow.Author.Needs.{needs}
 use Rattle.refusals.specs.declared.types.Verdict.{Verdict}
 use Rattle.refusals.specs.Answer.{verdictOf}
-use Rattle.clock.specs.declared.types.Rate.{Rate}
-use Rattle.clock.specs.Calls.{refusalsBesides}
+use Rattle.rates.specs.declared.types.Rate.{Rate}
+use Rattle.rates.specs.Refused.{refusalsBesides}
 use Rattle.record.specs.declared.types.Record.{Record}
-use Rattle.record.specs.Flags.{unusedColour}
+use Rattle.layout.specs.Flags.{unusedColour}
 use Rattle.record.specs.Calls.{recordRefusals}
 use Rattle.record.proofs.judging.judge.Statement.{statement}
 use Rattle.record.proofs.judging.judge.Tie as tie

@@ -3,12 +3,12 @@
 use mathlib.Core.Path.{_≡_, refl, _∙_}
 use Prim.Native.Nat.{ℕ}
 use borrow.Author.Needs.{needs}
-use Rattle.clock.specs.declared.types.Flag.{Flag}
-use Rattle.clock.specs.declared.types.Rate.{Rate}
-use Rattle.clock.specs.declared.types.Rate.the-variants.{At24, At25, At30}
-use Rattle.clock.specs.Rates.{byRate}
+use Rattle.rates.specs.declared.types.Flag.{Flag}
+use Rattle.rates.specs.declared.types.Rate.{Rate}
+use Rattle.rates.specs.declared.types.Rate.the-variants.{At24, At25, At30}
+use Rattle.rates.specs.Rates.{byRate}
 use Rattle.record.specs.declared.types.Flags.{Flags}
-use Rattle.record.specs.Flags.{flagAt, places}
+use Rattle.layout.specs.Flags.{flagAt, places}
 use Rattle.record.specs.Record.{flagsHeld}
 use Rattle.record.proofs.reading.flags_held.Statement.{statement}
 use Rattle.record.proofs.reading.flags_held.Tie as tie

@@ -3,11 +3,11 @@
 use mathlib.Core.Path.{_≡_}
 use Prim.Native.Nat.{ℕ}
 use borrow.Author.Needs.{needs}
-use Rattle.clock.specs.declared.types.Rate.{Rate}
-use Rattle.clock.specs.declared.types.Address.{Address}
+use Rattle.rates.specs.declared.types.Rate.{Rate}
+use Rattle.rates.specs.declared.types.Address.{Address}
 use Rattle.record.specs.declared.types.Flags.{Flags}
 use Rattle.record.specs.declared.types.Groups.{Groups}
-use Rattle.record.specs.Flags.{places}
+use Rattle.layout.specs.Flags.{places}
 use Rattle.record.specs.Record.{addressHeld, flagsHeld, groupsHeld, recordOf}
 use Rattle.record.proofs.reading.record_held.Statement.{statement}
 use Rattle.record.proofs.reading.record_held.Tie as tie

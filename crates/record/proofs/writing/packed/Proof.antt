@@ -7,7 +7,7 @@ use borrow.Author.Needs.{needs}
 use Rattle.refusals.specs.declared.types.Verdict.the-variants.{Sound, Refused as Unsound}
 use Rattle.refusals.specs.Answer.{verdictOf}
 use Rattle.refusals.proofs.Verdicts.{sound-clear}
-use Rattle.clock.specs.declared.types.Rate.{Rate}
+use Rattle.rates.specs.declared.types.Rate.{Rate}
 use Rattle.record.specs.declared.types.Record.{Record}
 use Rattle.record.specs.Calls.{writeRefusals}
 use Rattle.record.proofs.Accepted.{Writable, writable}

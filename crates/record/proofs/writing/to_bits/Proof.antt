@@ -4,7 +4,7 @@ use mathlib.Core.Path.{_≡_, sym, ap, _∙_}
 use mathlib.Core.Bool.{Bool}
 use Prim.Native.Nat.{ℕ}
 use borrow.Author.Needs.{needs}
-use Rattle.clock.specs.declared.types.Rate.{Rate}
+use Rattle.rates.specs.declared.types.Rate.{Rate}
 use Rattle.refusals.specs.declared.types.Verdict.{Verdict}
 use Rattle.refusals.specs.declared.types.Verdict.the-variants.{Sound, Refused as Unsound}
 use Rattle.refusals.specs.Answer.{verdictOf}

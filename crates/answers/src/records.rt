@@ -1,0 +1,72 @@
+// Fields that are bytes, an address and a record.
+use crate::numbers::put_number;
+use crate::text::put_text;
+use rates::Address;
+use rates::Flag;
+use record::Record;
+
+pub fn put_byte(out: &mut [u8], at: usize, byte: u8) -> usize {
+    put_number(out, at, byte as u64)
+}
+
+pub fn put_bytes(out: &mut [u8], at: usize, bytes: &[u8]) -> usize {
+    let mut next = at;
+    for i in 0..bytes.len() {
+        next = put_byte(out, next, bytes[i]);
+    }
+    next
+}
+
+pub fn put_address(out: &mut [u8], address: Address) -> usize {
+    let next = put_text(out, 0, b"address");
+    let frames = address.frames;
+    let fields = [address.hours, address.minutes, address.seconds, frames.0];
+    put_bytes(out, next, &fields)
+}
+
+fn bit(flag: Flag) -> u8 {
+    match flag {
+        Flag::No => 0,
+        Flag::Yes => 1,
+    }
+}
+
+// RECORD: `H M S F drop colour mark bgf0 bgf1 bgf2 G1 .. G8`.
+fn fields_of(r: Record) -> [u8; 18] {
+    let a = r.address;
+    let f = r.flags;
+    let g = r.groups;
+    let frames = a.frames;
+    let drop = f.drop;
+    let colour = f.colour;
+    let mark = f.mark;
+    let bgf0 = f.bgf0;
+    let bgf1 = f.bgf1;
+    let bgf2 = f.bgf2;
+    [
+        a.hours,
+        a.minutes,
+        a.seconds,
+        frames.0,
+        bit(drop),
+        bit(colour),
+        bit(mark),
+        bit(bgf0),
+        bit(bgf1),
+        bit(bgf2),
+        g.group1,
+        g.group2,
+        g.group3,
+        g.group4,
+        g.group5,
+        g.group6,
+        g.group7,
+        g.group8,
+    ]
+}
+
+pub fn put_record(out: &mut [u8], record: Record) -> usize {
+    let next = put_text(out, 0, b"record");
+    let fields = fields_of(record);
+    put_bytes(out, next, &fields)
+}

@@ -1,0 +1,10 @@
+// Requests for the clock: `number`, `address`, `distance`, `add`, `fields`, `kind-number`, `kind-fields`.
+//
+// types      what is asked for, and what is told
+// answering  which request a line is, and its answer
+// calling    the calls of the clock by mode, and the constructors of its four kinds
+mod answering;
+mod calling;
+mod types;
+
+pub use answering::answer;

@@ -1,0 +1,2 @@
+-- Constants   the constants of the four kinds
+pub mod Constants

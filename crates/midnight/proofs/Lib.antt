@@ -1,0 +1,12 @@
+-- Face       a clock that skips nothing: one frame on is one place on, and places and fields are one to one
+pub mod Face
+-- Skip       drop-frame: where the numbers of a day stand on a clock that skips nothing
+pub mod Skip
+-- Ways       the ways of counting, and what the laws of the clock rest on for each
+pub mod Ways
+-- Shown      what the clock shows is the closed form; numbers and addresses match one to one
+pub mod Shown
+-- Answers    the laws of the clock, said of what the calls answer
+pub mod Answers
+-- Moves      the distance and the sum, said of what the calls answer
+pub mod Moves

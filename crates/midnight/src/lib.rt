@@ -1,0 +1,6 @@
+// The clock, stepped from midnight by the standard's rule, and that the calls of the crate `clock` are its. No code.
+//
+// specs/Steps     one frame on, and what the clock shows n steps after midnight: what a reader has to believe
+// proofs/Shown    what it shows is the closed form; numbers and addresses match one to one
+// proofs/Answers  the same, said of what the calls answer
+// proofs/Moves    the distance and the sum

@@ -1,0 +1,76 @@
+// The reader that HELD describes.
+use crate::types::Held;
+use register::Reader;
+use requests::NOWHERE;
+use requests::Parsed;
+use requests::bits_in;
+use requests::byte;
+use requests::field_at;
+use requests::is_same;
+use requests::number_in;
+use requests::part_at;
+
+// The reader with the register that these bits leave, which says that it holds so many of its places. They are fed in mode 2, since the
+// request's may be a mode that takes none.
+fn holding(mode: u8, bits: &[u8], held: u64, next: usize) -> Held {
+    let fed = reader::block(Reader::fresh(2), 80, bits);
+    let now = fed.reader;
+    let reader = Reader {
+        mode,
+        held: byte(held),
+        info: now.info,
+        sync: now.sync,
+    };
+    if fed.taken != bits.len() {
+        return Held {
+            reader,
+            next: NOWHERE,
+        };
+    }
+    Held { reader, next }
+}
+
+// As many as were fed, unless HELD goes on by `!N`.
+fn count_held(claim: &[u8], fed: usize) -> Parsed {
+    if claim.len() == 0 {
+        return Parsed::Value(fed as u64);
+    }
+    number_in(&claim[1..], 10, 255)
+}
+
+fn not_held() -> Held {
+    Held {
+        reader: Reader::fresh(2),
+        next: NOWHERE,
+    }
+}
+
+// BITS or `BITS!N`.
+fn fed_in(text: &[u8], mode: u8, next: usize) -> Held {
+    let mut bits = [0u8; 80];
+    let end = part_at(text, 0, b'!').end;
+    let length = bits_in(&text[0..end], &mut bits);
+    if 80 < length {
+        return not_held();
+    }
+    let count = count_held(&text[end..], length);
+    match count {
+        Parsed::Value(held) => holding(mode, &bits[0..length], held, next),
+        Parsed::Unsound => not_held(),
+    }
+}
+
+// "`!` for a state that no feeding reaches": here one that holds 81.
+fn held_in(text: &[u8], mode: u8, next: usize) -> Held {
+    if is_same(text, b"!") {
+        return fed_in(b"-!81", mode, next);
+    }
+    fed_in(text, mode, next)
+}
+
+pub fn held_at(line: &[u8], cursor: usize, mode: u8) -> Held {
+    let field = field_at(line, cursor);
+    let start = field.start;
+    let end = field.end;
+    held_in(&line[start..end], mode, end + 1)
+}

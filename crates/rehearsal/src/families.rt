@@ -1,0 +1,29 @@
+// The families of requests, one after the other. A family answers how many characters the answer has, and 0 where the line is none of its
+// requests: another name, or fields that are not what they must be.
+use answers::put_text;
+
+const FAMILIES: usize = 3;
+
+// "A line that is no request gets `unknown`."
+pub fn put_unknown(out: &mut [u8]) -> usize {
+    put_text(out, 0, b"unknown")
+}
+
+fn answer_of(family: usize, line: &[u8], out: &mut [u8]) -> usize {
+    match family {
+        0 => clock_requests::answer(line, out),
+        1 => word_requests::answer(line, out),
+        2 => reader_requests::answer(line, out),
+        _ => 0,
+    }
+}
+
+pub fn answer(line: &[u8], out: &mut [u8]) -> usize {
+    for family in 0..FAMILIES {
+        let end = answer_of(family, line, out);
+        if 0 < end {
+            return end;
+        }
+    }
+    put_unknown(out)
+}

@@ -1,0 +1,101 @@
+// Fields that hold the elements of a run: BITS and WORDS, `-` for the empty run.
+ghost use Prim.Native.Nat.{_≤_};
+ghost use lib.ListN.{length};
+use crate::fields::NOWHERE;
+use crate::fields::digit_of;
+use crate::fields::field_at;
+use crate::fields::is_same;
+use crate::fields::number_in;
+use crate::fields::part_at;
+use crate::types::Parsed;
+use crate::types::Run;
+
+// So many elements, if there were places for them.
+fn found(length: usize, places: usize, next: usize) -> Run
+    ensures { λ r. ⌜ r .length ≤ places ⌝ }
+{
+    if places < length {
+        return Run {
+            length: 0,
+            next: NOWHERE,
+        };
+    }
+    Run { length, next }
+}
+
+// BITS, "one element a character": how many there are, or NOWHERE where the text is no BITS or has more than the run.
+pub fn bits_in(text: &[u8], run: &mut [u8]) -> usize {
+    if is_same(text, b"-") {
+        return 0;
+    }
+    if text.len() == 0 {
+        return NOWHERE;
+    }
+    if run.len() < text.len() {
+        return NOWHERE;
+    }
+    for i in 0..text.len() {
+        let digit = digit_of(text[i]);
+        if 9 < digit {
+            return NOWHERE;
+        }
+        run[i] = (digit % 10) as u8;
+    }
+    text.len()
+}
+
+pub fn bits_at(line: &[u8], cursor: usize, run: &mut [u8]) -> Run
+    ensures { λ r. ⌜ r .length ≤ length (now (run .entry)) ⌝ }
+{
+    let field = field_at(line, cursor);
+    let start = field.start;
+    let end = field.end;
+    let length = bits_in(&line[start..end], run);
+    found(length, run.len(), end + 1)
+}
+
+// One of WORDS, "upper-case hex, at least three digits", into its place of the run. Whether it is one and has a place.
+fn take_word(text: &[u8], run: &mut [u16], place: usize) -> bool {
+    if text.len() < 3 {
+        return false;
+    }
+    if run.len() <= place {
+        return false;
+    }
+    let Parsed::Value(word) = number_in(text, 16, 0xffff) else {
+        return false;
+    };
+    run[place] = (word % 0x1_0000) as u16;
+    true
+}
+
+// How many words there are, "commas between", or NOWHERE as for bits.
+fn words_in(text: &[u8], run: &mut [u16]) -> usize {
+    if is_same(text, b"-") {
+        return 0;
+    }
+    let mut at: usize = 0;
+    for i in 0..run.len() {
+        let part = part_at(text, at, b',');
+        let start = part.start;
+        let end = part.end;
+        if !take_word(&text[start..end], run, i) {
+            return NOWHERE;
+        }
+        if end == text.len() {
+            return i + 1;
+        }
+        at = end + 1;
+    }
+    NOWHERE
+}
+
+pub fn words_at(line: &[u8], cursor: usize, run: &mut [u16]) -> Run
+    ensures { λ r. ⌜ r .length ≤ length (now (run .entry)) ⌝ }
+{
+    let field = field_at(line, cursor);
+    let start = field.start;
+    let end = field.end;
+    let length = words_in(&line[start..end], run);
+    found(length, run.len(), end + 1)
+}

@@ -1,0 +1,76 @@
+// From the numbers of a request to the values that the calls take: each number was found within the limit of its field.
+use crate::types::Numbers;
+use clock::DayFrame;
+use rates::Address;
+use rates::Flag;
+use rates::SecondFrame;
+use record::Flags;
+use record::Groups;
+use record::Record;
+
+pub fn byte(number: u64) -> u8 {
+    (number % 256) as u8
+}
+
+pub fn flag(number: u64) -> Flag {
+    if number == 0 {
+        return Flag::No;
+    }
+    Flag::Yes
+}
+
+pub fn day_frame(number: u64) -> DayFrame {
+    DayFrame((number % 0x1_0000_0000) as u32)
+}
+
+// A number below 0 is the bits of one less than its size, turned over.
+pub fn count(above_lowest: u64) -> i32 {
+    if above_lowest < 0x8000_0000 {
+        let less = 0x7fff_ffff - above_lowest;
+        return !(less as i32);
+    }
+    (above_lowest % 0x8000_0000) as i32
+}
+
+// `H M S F`.
+pub fn address_in(hours: u64, minutes: u64, seconds: u64, frames: u64) -> Address {
+    Address {
+        hours: byte(hours),
+        minutes: byte(minutes),
+        seconds: byte(seconds),
+        frames: SecondFrame(byte(frames)),
+    }
+}
+
+fn flags_in(n: &Numbers) -> Flags {
+    Flags {
+        drop: flag(n[7]),
+        colour: flag(n[8]),
+        mark: flag(n[9]),
+        bgf0: flag(n[10]),
+        bgf1: flag(n[11]),
+        bgf2: flag(n[12]),
+    }
+}
+
+fn groups_in(n: &Numbers) -> Groups {
+    Groups {
+        group1: byte(n[13]),
+        group2: byte(n[14]),
+        group3: byte(n[15]),
+        group4: byte(n[16]),
+        group5: byte(n[17]),
+        group6: byte(n[18]),
+        group7: byte(n[19]),
+        group8: byte(n[20]),
+    }
+}
+
+// RECORD, from the fourth number of a write on.
+pub fn record_in(n: &Numbers) -> Record {
+    Record {
+        address: address_in(n[3], n[4], n[5], n[6]),
+        flags: flags_in(n),
+        groups: groups_in(n),
+    }
+}

@@ -1,0 +1,10 @@
+// Text put into a lent run, and numbers as text.
+//
+// laying     text put into a run
+// digits     numbers as text
+mod digits;
+mod laying;
+
+pub use digits::append_decimal;
+pub use digits::hex_digit;
+pub use laying::append;

@@ -1,0 +1,8 @@
+// There and back: what is written reads as it was, and what is read is written as it stood; of numbers and addresses, the 64 bits, linear words,
+// interval lines and packets. No code.
+//
+// proofs/Numbers  frame numbers and addresses, by mode
+// proofs/Records  the 64 bits and a record; proofs/ByMode the same by mode
+// proofs/Words    linear words and records
+// proofs/Lines    vertical interval lines and records
+// proofs/Packets  packets, and record, type and second byte

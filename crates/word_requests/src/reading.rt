@@ -1,0 +1,63 @@
+// Reads of linear words, vertical interval lines and packets.
+use crate::types::Carrier;
+use answers::put_byte;
+use answers::put_record;
+use answers::put_refused;
+use atc::Packet;
+use record::Unpacked;
+use requests::LONGEST_LINE;
+use requests::bits_at;
+use requests::byte;
+use requests::is_end;
+use requests::number_at;
+use requests::words_at;
+
+fn read_bits(carrier: Carrier, mode: u8, run: &[u8]) -> Unpacked {
+    match carrier {
+        Carrier::Ltc => ltc::read(mode, run),
+        Carrier::Vitc => vitc::read(mode, run),
+    }
+}
+
+fn put_unpacked(out: &mut [u8], unpacked: Unpacked) -> usize {
+    match unpacked {
+        Unpacked::Refused(number) => put_refused(out, number),
+        Unpacked::Holds(record) => put_record(out, record),
+    }
+}
+
+fn put_packet(out: &mut [u8], packet: Packet) -> usize {
+    match packet {
+        Packet::Refused(number) => put_refused(out, number),
+        Packet::Holds(contents) => {
+            let record = contents.record;
+            let after_record = put_record(out, record);
+            let after_type = put_byte(out, after_record, contents.payload_type);
+            put_byte(out, after_type, contents.second)
+        }
+    }
+}
+
+pub fn answer_bits_read(carrier: Carrier, line: &[u8], cursor: usize, out: &mut [u8]) -> usize {
+    let mode = number_at(line, cursor, b'b');
+    let mut run = [0u8; LONGEST_LINE];
+    let taken = bits_at(line, mode.next, &mut run);
+    let length = taken.length;
+    if is_end(line, taken.next) {
+        let unpacked = read_bits(carrier, byte(mode.value), &run[0..length]);
+        return put_unpacked(out, unpacked);
+    }
+    0
+}
+
+pub fn answer_words_read(line: &[u8], cursor: usize, out: &mut [u8]) -> usize {
+    let mode = number_at(line, cursor, b'b');
+    // A line of 2,000 characters has fewer words than this.
+    let mut run = [0u16; 500];
+    let taken = words_at(line, mode.next, &mut run);
+    let length = taken.length;
+    if is_end(line, taken.next) {
+        return put_packet(out, atc::read(byte(mode.value), &run[0..length]));
+    }
+    0
+}

@@ -1,0 +1,76 @@
+// Writes of linear words, vertical interval lines and packets.
+use crate::types::Carrier;
+use answers::put_bits;
+use answers::put_refused;
+use answers::put_text;
+use answers::put_words;
+use record::Record;
+use requests::MOST_NUMBERS;
+use requests::Numbers;
+use requests::byte;
+use requests::record_in;
+use requests::take_numbers;
+use runs::Written;
+
+// What a write was refused with, and 0 where it wrote.
+fn refusal(written: Written) -> u8 {
+    match written {
+        Written::Done => 0,
+        Written::Refused(number) => number,
+    }
+}
+
+fn write_bits(carrier: Carrier, mode: u8, record: Record, start: usize, run: &mut [u8]) -> u8 {
+    match carrier {
+        Carrier::Ltc => refusal(ltc::write(mode, record, start, run)),
+        Carrier::Vitc => refusal(vitc::write(mode, record, start, run)),
+    }
+}
+
+fn put_written(out: &mut [u8], refusal: u8) -> usize {
+    if refusal == 0 {
+        return put_text(out, 0, b"wrote");
+    }
+    put_refused(out, refusal)
+}
+
+// "RUN is the whole lent run after a write, refused or not".
+fn put_bits_written(carrier: Carrier, n: &Numbers, run: &mut [u8], out: &mut [u8]) -> usize {
+    let start = n[1] as usize;
+    let refusal = write_bits(carrier, byte(n[0]), record_in(n), start, run);
+    let next = put_written(out, refusal);
+    put_bits(out, next, run)
+}
+
+fn put_words_written(n: &Numbers, run: &mut [u16], out: &mut [u8]) -> usize {
+    let start = n[1] as usize;
+    let record = record_in(n);
+    let written = atc::write(byte(n[0]), record, byte(n[21]), byte(n[22]), start, run);
+    let next = put_written(out, refusal(written));
+    put_words(out, next, run)
+}
+
+// `MODE START LENGTH RECORD`, which TYPE and SECOND follow in `atc-write`.
+pub fn answer_bits_write(carrier: Carrier, line: &[u8], cursor: usize, out: &mut [u8]) -> usize {
+    let mut n = [0u64; MOST_NUMBERS];
+    let mut run = [7u8; 400];
+    if take_numbers(line, cursor, b"bslbbbbffffffbbbbbbbb", &mut n) {
+        let length = n[2] as usize;
+        if length <= 400 {
+            return put_bits_written(carrier, &n, &mut run[0..length], out);
+        }
+    }
+    0
+}
+
+pub fn answer_words_write(line: &[u8], cursor: usize, out: &mut [u8]) -> usize {
+    let mut n = [0u64; MOST_NUMBERS];
+    let mut run = [0x777u16; 400];
+    if take_numbers(line, cursor, b"bslbbbbffffffbbbbbbbbbb", &mut n) {
+        let length = n[2] as usize;
+        if length <= 400 {
+            return put_words_written(&n, &mut run[0..length], out);
+        }
+    }
+    0
+}
