@@ -18,7 +18,6 @@ pub use numbers::put_refused;
 pub use numbers::put_signed;
 pub use records::put_address;
 pub use records::put_byte;
-pub use records::put_bytes;
 pub use records::put_record;
 pub use text::put;
 pub use text::put_text;

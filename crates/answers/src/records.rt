@@ -9,7 +9,7 @@ pub fn put_byte(out: &mut [u8], at: usize, byte: u8) -> usize {
     put_number(out, at, byte as u64)
 }
 
-pub fn put_bytes(out: &mut [u8], at: usize, bytes: &[u8]) -> usize {
+fn put_bytes(out: &mut [u8], at: usize, bytes: &[u8]) -> usize {
     let mut next = at;
     for i in 0..bytes.len() {
         next = put_byte(out, next, bytes[i]);

@@ -16,11 +16,12 @@ use Rattle.record.specs.declared.types.Unpacked.{Unpacked}
 use Rattle.record.specs.declared.types.Unpacked.the-variants.{Holds as Held, Refused as Unheld}
 use Rattle.modes.specs.Modes.{unknown, withMode}
 use Rattle.modes.specs.Calls.{recordIn, bitsRefusalsIn, unpackedIn}
+use Rattle.words.specs.Words.{infoIn}
+use Rattle.packets.specs.Packet.{dataIn, typeIn, secondIn, unknownType}
+use Rattle.packets.specs.Calls.{formRefusals}
 use Rattle.atc.specs.declared.types.Packet.{Packet}
 use Rattle.atc.specs.declared.types.Packet.the-variants.{Holds, Refused as Unread}
-use Rattle.words.specs.Words.{infoIn}
-use Rattle.atc.specs.Packet.{dataIn, typeIn, secondIn, unknownType}
-use Rattle.atc.specs.Calls.{formRefusals, contentRefusals, readRefusals, contentsWith, readOf, writtenRows}
+use Rattle.atc.specs.Calls.{contentRefusals, readRefusals, contentsWith, readOf, writtenRows}
 
 abbrev pub packetAs : ℕ → ℕ → Unpacked → Packet
 packetAs type second (Held r) = Holds (contentsWith r type second)

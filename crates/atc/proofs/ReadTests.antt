@@ -15,10 +15,11 @@ use Rattle.record.specs.declared.types.Record.{Record}
 use Rattle.record.specs.declared.types.Unpacked.{Unpacked}
 use Rattle.record.specs.declared.types.Unpacked.the-variants.{Holds as Held, Refused as Unheld}
 use Rattle.modes.specs.Calls.{unpackedIn}
-use Rattle.atc.specs.declared.types.Packet.the-variants.{Holds, Refused as Unread}
 use Rattle.words.specs.Words.{infoIn, byteIn}
-use Rattle.atc.specs.Packet.{secondIn, unknownType}
-use Rattle.atc.specs.Calls.{formRefusals, contentsWith, readOf}
+use Rattle.packets.specs.Packet.{secondIn, unknownType}
+use Rattle.packets.specs.Calls.{formRefusals}
+use Rattle.atc.specs.declared.types.Packet.the-variants.{Holds, Refused as Unread}
+use Rattle.atc.specs.Calls.{contentsWith, readOf}
 use Rattle.atc.proofs.Answers.{packetAs, size, past-the-form, past-the-type}
 
 module _ (mode : ℕ) (words : List ℕ) (found : Verdict) (judged : found ≡ verdictOf (formRefusals mode words)) where

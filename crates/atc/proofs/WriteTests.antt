@@ -2,26 +2,24 @@
 -- Assumes nothing.
 use mathlib.Core.Path.{_≡_, sym, _∙_}
 use mathlib.Core.Bool.{true, false}
-use Prim.Native.Nat.{ℕ, _+_, _-_}
+use Prim.Native.Nat.{ℕ}
 use mathlib.Core.List.{List}
-use lib.ListN.{length}
-use borrow.Rule.Slice.PartMut.{putMid}
 use Rattle.refusals.specs.Table.{unknown-mode, unknown-type, outside-the-clock, no-room}
 use Rattle.refusals.specs.Answer.{Refusal, answer}
-use Rattle.refusals.proofs.Answered.{Clear}
-use Rattle.refusals.proofs.ByNumber.{clear-from, clear-whole}
+use Rattle.refusals.proofs.Answered.{Clear, otherwise-accepted}
+use Rattle.refusals.proofs.ByNumber.{rowsBefore, clear-from}
 use Rattle.runs.specs.declared.types.Written.{Written}
-use Rattle.runs.specs.declared.types.Written.the-variants.{Done, Refused as Unwritten}
-use Rattle.runs.specs.Run.{noRoom}
-use Rattle.runs.proofs.Written.{turned-away, written-there}
+use Rattle.runs.specs.declared.types.Written.the-variants.{Refused as Unwritten}
+use Rattle.runs.specs.Run.{writtenBy, runAfter}
+use Rattle.runs.proofs.Written.{turned-away}
 use Rattle.record.specs.declared.types.Record.{Record}
 use Rattle.record.specs.declared.types.Packed.the-variants.{Bits, Refused as Unpackable}
 use Rattle.modes.specs.Modes.{unknown, withMode}
-use Rattle.modes.specs.Calls.{informationIn, writeRefusalsIn, packedIn}
+use Rattle.modes.specs.Calls.{writeRefusalsIn, packedIn}
 use Rattle.modes.proofs.Told.{refused-as, packed-is}
-use Rattle.atc.specs.Packet.{packetWith, unknownType}
+use Rattle.packets.specs.Packet.{packetWith, unknownType}
+use Rattle.packets.specs.Calls.{roomRefusals}
 use Rattle.atc.specs.Calls.{packetOf, writtenRows, writtenOf, runOf}
-use Rattle.atc.proofs.Pieces.{length-packet}
 
 -- what a call promised of its answer, once the answer is looked at
 pub told : {A : Type 0} (given promised found : A) → given ≡ promised → given ≡ found → promised ≡ found
@@ -60,14 +58,17 @@ module _ (mode : ℕ) (r : Record) (type second start : ℕ) (run : List ℕ) wh
         own : Clear (writeRefusalsIn mode r)
         own = clear-from outside-the-clock (withMode mode (writeRefusalsIn mode r)) (packed-is mode r info e .0)
 
-        pub crowded : noRoom 23 start (length run) ≡ true → Outcome (Unwritten 12) run
+        -- the packet was placed, or there was no room for it: what came back is what the write answers
+        pub placed : (answered : Written) (left : List ℕ)
+            → (answered ≡ writtenBy (roomRefusals start run)) × (left ≡ runAfter (roomRefusals start run) start (packetWith info type second) run)
+            → Outcome answered left
         unfolding writtenOf runOf
-        crowded lacks = turned-away rows start (packetOf mode r type second) run no-room (known, (typed, own)) lacks
-
-        pub done : (part : List ℕ) → noRoom 23 start (length run) ≡ false → part ≡ packetWith info type second
-            → Outcome Done (putMid start ((start + 23) - start) run part)
-        unfolding writtenOf runOf
-        done part roomy made =
-            let whole : part ≡ packetOf mode r type second = rw (packed-is mode r info e .1) made in
-            let clear = clear-whole no-room rows (known, (typed, own)) (roomy, tt) in
-            written-there rows start (packetOf mode r type second) run clear 23 (length-packet (informationIn mode r) type second) part whole
+        placed answered left told =
+            let before = rowsBefore no-room rows in
+            let clear : Clear before = (known, (typed, own)) in
+            let word = packetOf mode r type second in (
+              told .0 ∙ sym (otherwise-accepted Unwritten (writtenBy (roomRefusals start run)) before clear),
+              told .1
+                  ∙ rw (← packed-is mode r info e .1)
+                  (sym (otherwise-accepted (λ (k : ℕ). run) (runAfter (roomRefusals start run) start word run) before clear)),
+            )

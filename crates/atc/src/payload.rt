@@ -1,6 +1,6 @@
 // The payload types that a packet may carry.
 ghost use mathlib.Core.Path.{_≡_};
-ghost use Rattle.atc.specs.Packet.{unknownType};
+ghost use Rattle.packets.specs.Packet.{unknownType};
 
 // "Payload type above 2".
 pub fn is_unknown_type(payload_type: u8) -> bool

@@ -2,54 +2,13 @@
 ghost use mathlib.Core.Path.{_≡_};
 ghost use Prim.Native.Nat.{_≤_};
 ghost use lib.ListN.{length};
-ghost use Rattle.refusals.specs.Answer.{verdictOf};
 ghost use Rattle.words.specs.Words.{infoIn, byteIn};
-ghost use Rattle.atc.specs.Packet.{isHeaded};
-ghost use Rattle.atc.specs.Calls.{formRefusals, readOf};
+ghost use Rattle.atc.specs.Calls.{readOf};
 use crate::payload::is_unknown_type;
 use crate::types::Contents;
 use crate::types::Packet;
 use record::Unpacked;
 use refusals::Verdict;
-
-// Whether the first six words are those of a packet.
-fn is_headed(words: &[u16]) -> bool
-    requires { ⌜ 6 ≤ length (now words) ⌝ }
-    ensures { λ r. ⌜ r ≡ isHeaded (now (words .entry)) ⌝ }
-{
-    (words[0] == 0x000)
-        & ((words[1] == 0x3FF)
-            & ((words[2] == 0x3FF)
-                & ((words[3] == 0x260) & ((words[4] == 0x260) & (words[5] == 0x110)))))
-}
-
-// Whether the words have the form of a packet, whatever they carry.
-fn judge(mode: u8, words: &[u16]) -> Verdict
-    ensures { λ r. ⌜ r ≡ verdictOf (formRefusals mode (now (words .entry))) ⌝ }
-{
-    if words.len() != 23 {
-        return Verdict::Refused(refusals::WRONG_LENGTH);
-    }
-    if modes::is_unknown(mode) {
-        return Verdict::Refused(refusals::UNKNOWN_MODE);
-    }
-    if words::has_high_word(words) {
-        return Verdict::Refused(refusals::ELEMENT_TOO_HIGH);
-    }
-    if !is_headed(words) {
-        return Verdict::Refused(refusals::WRONG_SYNC);
-    }
-    if words::has_wrong_word(&words[6..22]) {
-        return Verdict::Refused(refusals::WRONG_CHECK);
-    }
-    if words[22] != words::checksum(&words[3..22]) {
-        return Verdict::Refused(refusals::WRONG_CHECK);
-    }
-    if words::has_low_bits(&words[6..22]) {
-        return Verdict::Refused(refusals::LOW_BITS_SET);
-    }
-    Verdict::Sound
-}
 
 // The information bits of at most sixteen data words: four in each, in b4 to b7.
 fn info_in(words: &[u16]) -> u64
@@ -82,7 +41,7 @@ fn byte_in(words: &[u16]) -> u8
 pub fn read(mode: u8, words: &[u16]) -> Packet
     ensures { λ r. ⌜ r ≡ readOf mode (now (words .entry)) ⌝ }
 {
-    let found = judge(mode, words);
+    let found = packets::judge(mode, words);
     match found {
         Verdict::Refused(number) => Packet::Refused(number),
         Verdict::Sound => {

@@ -14,7 +14,7 @@ use Rattle.ltc.specs.Word.{syncWord, oddZeros, wordOf}
 use Rattle.ltc.specs.Calls as ltc
 use Rattle.vitc.specs.Line.{each, onesFrom, groups, payload, crcOf, lineWith, lineOf}
 use Rattle.words.specs.Words.{dataWord, dataWords, sum9}
-use Rattle.atc.specs.Packet.{header, checksumOf, frontOf, packetWith}
+use Rattle.packets.specs.Packet.{header, checksumOf, frontOf, packetWith}
 use Rattle.atc.specs.Calls as atc
 use Rattle.demands.specs.Bars.{bars, onesAmong, packed, Rehearsed}
 

@@ -2,6 +2,7 @@
 // requests: another name, or fields that are not what they must be.
 use answers::put_text;
 
+// One for each arm of `answer_of` but the last.
 const FAMILIES: usize = 3;
 
 // "A line that is no request gets `unknown`."

@@ -54,19 +54,12 @@ pub fn bits_at(line: &[u8], cursor: usize, run: &mut [u8]) -> Run
     found(length, run.len(), end + 1)
 }
 
-// One of WORDS, "upper-case hex, at least three digits", into its place of the run. Whether it is one and has a place.
-fn take_word(text: &[u8], run: &mut [u16], place: usize) -> bool {
+// One of WORDS: "upper-case hex, at least three digits".
+fn word_in(text: &[u8]) -> Parsed {
     if text.len() < 3 {
-        return false;
+        return Parsed::Unsound;
     }
-    if run.len() <= place {
-        return false;
-    }
-    let Parsed::Value(word) = number_in(text, 16, 0xffff) else {
-        return false;
-    };
-    run[place] = (word % 0x1_0000) as u16;
-    true
+    number_in(text, 16, 0xffff)
 }
 
 // How many words there are, "commas between", or NOWHERE as for bits.
@@ -79,9 +72,10 @@ fn words_in(text: &[u8], run: &mut [u16]) -> usize {
         let part = part_at(text, at, b',');
         let start = part.start;
         let end = part.end;
-        if !take_word(&text[start..end], run, i) {
+        let Parsed::Value(word) = word_in(&text[start..end]) else {
             return NOWHERE;
-        }
+        };
+        run[i] = (word % 0x1_0000) as u16;
         if end == text.len() {
             return i + 1;
         }

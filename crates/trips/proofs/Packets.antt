@@ -24,14 +24,15 @@ use Rattle.modes.specs.Modes.{unknown, rateAt, withMode}
 use Rattle.modes.specs.Calls.{recordIn, informationIn, bitsRefusalsIn, writeRefusalsIn, packedIn, unpackedIn}
 use Rattle.modes.proofs.Told.{packed-is}
 use Rattle.trips.proofs.ByMode.{one-to-one}
+use Rattle.words.specs.Words.{bitIn, infoIn}
+use Rattle.words.proofs.Lists.{gathered-below}
+use Rattle.packets.specs.Packet.{dataIn, typeIn, secondIn, packetWith, unknownType}
+use Rattle.packets.specs.Calls.{formRefusals}
+use Rattle.packets.proofs.Pieces.{length-packet}
 use Rattle.atc.specs.declared.types.Contents.{Contents}
 use Rattle.atc.specs.declared.types.Packet.{Packet}
 use Rattle.atc.specs.declared.types.Packet.the-variants.{Holds, Refused as Unread}
-use Rattle.words.specs.Words.{bitIn, infoIn}
-use Rattle.words.proofs.Lists.{gathered-below}
-use Rattle.atc.specs.Packet.{dataIn, typeIn, secondIn, packetWith, unknownType}
-use Rattle.atc.specs.Calls.{formRefusals, readRefusals, contentsWith, readOf, packetOf, writtenRows, writtenOf, runOf}
-use Rattle.atc.proofs.Pieces.{length-packet}
+use Rattle.atc.specs.Calls.{readRefusals, contentsWith, readOf, packetOf, writtenRows, writtenOf, runOf}
 use Rattle.trips.proofs.Packet.{form-clear, info-again, type-again, second-again, packet-again, info-below}
 use Rattle.atc.proofs.Answers.{size, past-the-type}
 

@@ -28,23 +28,38 @@ loop-holds c = search needs
 part-at-requires : tie.Need-part-at-requires Inv-loop μ-loop
 part-at-requires c κs = search needs
 
-sub-take-word : tie.Need-sub-take-word Inv-loop μ-loop
-sub-take-word c = search needs
+sub-word-in : tie.Need-sub-word-in Inv-loop μ-loop
+sub-word-in c = search needs
 
-part-take-word-start : tie.Need-part-take-word-start Inv-loop μ-loop
-part-take-word-start c = search needs
+part-word-in-start : tie.Need-part-word-in-start Inv-loop μ-loop
+part-word-in-start c = search needs
 
-part-take-word-end : tie.Need-part-take-word-end Inv-loop μ-loop
-part-take-word-end c = search needs
+part-word-in-end : tie.Need-part-word-in-end Inv-loop μ-loop
+part-word-in-end c = search needs
 
-take-word-requires : tie.Need-take-word-requires Inv-loop μ-loop
-take-word-requires c κs = search needs
+word-in-requires : tie.Need-word-in-requires Inv-loop μ-loop
+word-in-requires c κs = search needs
+
+enum-known-word : tie.Need-enum-known-word Inv-loop μ-loop
+enum-known-word c = search needs
+
+enum-told : tie.Need-enum-told Inv-loop μ-loop
+enum-told c = search needs
 
 same-length : tie.Need-same-length Inv-loop μ-loop
 same-length c = search needs
 
 returns-2 : tie.Need-returns-2 Inv-loop μ-loop
 returns-2 c = search needs
+
+cast-run : tie.Need-cast-run Inv-loop μ-loop
+cast-run c = search needs
+
+mul-run : tie.Need-mul-run Inv-loop μ-loop
+mul-run c = search needs
+
+slice-write-run : tie.Need-slice-write-run Inv-loop μ-loop
+slice-write-run c = search needs
 
 add-result : tie.Need-add-result Inv-loop μ-loop
 add-result c = search needs
@@ -84,12 +99,17 @@ words-in-spec =
     returns
     loop-holds
     part-at-requires
-    sub-take-word
-    part-take-word-start
-    part-take-word-end
-    take-word-requires
+    sub-word-in
+    part-word-in-start
+    part-word-in-end
+    word-in-requires
+    enum-known-word
+    enum-told
     same-length
     returns-2
+    cast-run
+    mul-run
+    slice-write-run
     add-result
     same-length-2
     returns-3

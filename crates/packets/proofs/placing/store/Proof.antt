@@ -1,9 +1,9 @@
--- `atc::writing::store` meets its contract: header, data words and checksum are the packet, and the run is as long as before.
+-- `packets::placing::store` meets its contract: header, data words and checksum are the packet, and the run is as long as before.
 -- Assumes nothing.
 use borrow.Author.Needs.{needs}
-use Rattle.atc.proofs.Pieces.{finished, as-long}
-use Rattle.atc.proofs.writing.store.Statement.{statement}
-use Rattle.atc.proofs.writing.store.Tie as tie
+use Rattle.packets.proofs.Pieces.{finished, as-long}
+use Rattle.packets.proofs.placing.store.Statement.{statement}
+use Rattle.packets.proofs.placing.store.Tie as tie
 
 sub-store-header : tie.Need-sub-store-header
 sub-store-header c = search needs

@@ -1,4 +1,4 @@
--- `atc::writing::store_header` meets its contract: six stores from the front fill a run of six.
+-- `packets::placing::store_header` meets its contract: six stores from the front fill a run of six.
 -- Assumes nothing.
 use mathlib.Core.Path.{_≡_, _∙_}
 use Prim.Native.Nat.{ℕ}
@@ -7,9 +7,9 @@ use mathlib.Core.List.{List, []}
 use lib.ListN.{length, drop, length-set, drop-of-length-le}
 use lib.Seq.{sets, sets-eq}
 use borrow.Author.Needs.{needs}
-use Rattle.atc.specs.Packet.{header}
-use Rattle.atc.proofs.writing.store_header.Statement.{statement}
-use Rattle.atc.proofs.writing.store_header.Tie as tie
+use Rattle.packets.specs.Packet.{header}
+use Rattle.packets.proofs.placing.store_header.Statement.{statement}
+use Rattle.packets.proofs.placing.store_header.Tie as tie
 
 filled : (run : List ℕ) → length run ≡ 6 → sets run 0 header ≡ header
 unfolding header

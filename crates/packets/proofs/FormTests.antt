@@ -11,8 +11,8 @@ use Rattle.refusals.specs.Answer.{verdictOf}
 use Rattle.bits.specs.Bits.{someAbove}
 use Rattle.modes.specs.Modes.{unknown}
 use Rattle.words.specs.Words.{wrongWord, lowSet, someWord, withOpposite, sum9}
-use Rattle.atc.specs.Packet.{isHeaded, checksumOf}
-use Rattle.atc.specs.Calls.{formRefusals}
+use Rattle.packets.specs.Packet.{isHeaded, checksumOf}
+use Rattle.packets.specs.Calls.{formRefusals}
 
 module _ (mode : ℕ) (words : List ℕ) where
   pub wrong-size : (length words ≡ 23 → ⊥) → Unsound 1 ≡ verdictOf (formRefusals mode words)

@@ -14,7 +14,7 @@ use Rattle.runs.specs.Run.{placed}
 use Rattle.runs.proofs.Parts.{put-is-placed}
 use Rattle.words.specs.Words.{withOpposite, dataWords, sum9}
 use Rattle.words.proofs.Lists.{length-dataWords}
-use Rattle.atc.specs.Packet.{header, checksumOf, carriedOf, frontOf, packetWith}
+use Rattle.packets.specs.Packet.{header, checksumOf, carriedOf, frontOf, packetWith}
 
 -- sixteen bits are the type's eight and the second byte's eight
 pub carried-bits : (type second : ℕ) → type < 256 → toBits 16 (type + 256 * second) ≡ carriedOf type second

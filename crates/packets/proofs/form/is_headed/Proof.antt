@@ -1,4 +1,4 @@
--- `atc::reading::is_headed` meets its contract: the first six elements are the list's first six.
+-- `packets::form::is_headed` meets its contract: the first six elements are the list's first six.
 -- Assumes nothing.
 use mathlib.Core.Path.{_≡_, refl, ap, sym, _∙_}
 use mathlib.Core.Bool.{_&&_, and-true}
@@ -10,9 +10,9 @@ use lib.ListN.{length, getD, take, drop}
 use lib.Seq.{drop-cons}
 use borrow.Author.Needs.{needs}
 use Rattle.runs.specs.Run.{same}
-use Rattle.atc.specs.Packet.{header, isHeaded}
-use Rattle.atc.proofs.reading.is_headed.Statement.{statement}
-use Rattle.atc.proofs.reading.is_headed.Tie as tie
+use Rattle.packets.specs.Packet.{header, isHeaded}
+use Rattle.packets.proofs.form.is_headed.Statement.{statement}
+use Rattle.packets.proofs.form.is_headed.Tie as tie
 
 module _ (words : List ℕ) where
   next : (k n : ℕ) {rest : List ℕ} → k < length words → take n (drop (suc k) words) ≡ rest → take (suc n) (drop k words) ≡ getD words k 0 ∷ rest

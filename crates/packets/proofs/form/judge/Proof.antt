@@ -1,9 +1,9 @@
--- `atc::reading::judge` meets its contract: the tests that led to each `return` are the rows of the list up to the one that applies.
+-- `packets::form::judge` meets its contract: the tests that led to each `return` are the rows of the list up to the one that applies.
 -- Assumes nothing.
 use borrow.Author.Needs.{needs}
-use Rattle.atc.proofs.FormTests.{wrong-size, no-mode, high-word, no-header, wrong-word, wrong-sum, low-bits, all-sound}
-use Rattle.atc.proofs.reading.judge.Statement.{statement}
-use Rattle.atc.proofs.reading.judge.Tie as tie
+use Rattle.packets.proofs.FormTests.{wrong-size, no-mode, high-word, no-header, wrong-word, wrong-sum, low-bits, all-sound}
+use Rattle.packets.proofs.form.judge.Statement.{statement}
+use Rattle.packets.proofs.form.judge.Tie as tie
 
 returns : tie.Need-returns
 returns c = search wrong-size
@@ -26,14 +26,14 @@ is-headed-requires c κs = search needs
 returns-4 : tie.Need-returns-4
 returns-4 c = search no-header
 
-sub-has-wrong-word : tie.Need-sub-has-wrong-word
-sub-has-wrong-word c = search needs
+sub-data : tie.Need-sub-data
+sub-data c = search needs
 
-part-has-wrong-word-start : tie.Need-part-has-wrong-word-start
-part-has-wrong-word-start c = search needs
+part-data-start : tie.Need-part-data-start
+part-data-start c = search needs
 
-part-has-wrong-word-end : tie.Need-part-has-wrong-word-end
-part-has-wrong-word-end c = search needs
+part-data-end : tie.Need-part-data-end
+part-data-end c = search needs
 
 has-wrong-word-requires : tie.Need-has-wrong-word-requires
 has-wrong-word-requires c κs = search needs
@@ -59,15 +59,6 @@ checksum-requires c κs = search needs
 returns-6 : tie.Need-returns-6
 returns-6 c = search wrong-sum
 
-sub-has-low-bits : tie.Need-sub-has-low-bits
-sub-has-low-bits c = search needs
-
-part-has-low-bits-start : tie.Need-part-has-low-bits-start
-part-has-low-bits-start c = search needs
-
-part-has-low-bits-end : tie.Need-part-has-low-bits-end
-part-has-low-bits-end c = search needs
-
 has-low-bits-requires : tie.Need-has-low-bits-requires
 has-low-bits-requires c κs = search needs
 
@@ -88,9 +79,9 @@ judge-spec =
     returns-3
     is-headed-requires
     returns-4
-    sub-has-wrong-word
-    part-has-wrong-word-start
-    part-has-wrong-word-end
+    sub-data
+    part-data-start
+    part-data-end
     has-wrong-word-requires
     returns-5
     shared-slice-read-if6
@@ -99,9 +90,6 @@ judge-spec =
     part-checksum-end
     checksum-requires
     returns-6
-    sub-has-low-bits
-    part-has-low-bits-start
-    part-has-low-bits-end
     has-low-bits-requires
     returns-7
     returns-8)
