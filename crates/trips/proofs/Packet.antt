@@ -139,9 +139,6 @@ module _ (mode : ℕ) (words : List ℕ) (clear : Clear (formRefusals mode words
   abbrev rows : List Refusal
   rows = formRefusals mode words
 
-  whole : length words ≡ 23
-  whole = size mode words clear
-
   abbrev parts : List ℕ
   parts = dataIn words
 
@@ -159,8 +156,8 @@ module _ (mode : ℕ) (words : List ℕ) (clear : Clear (formRefusals mode words
 
   ends : drop 16 (drop 6 words) ≡ sum
   ends =
-      let none : drop 23 words ≡ [] = drop-of-length-le words {i = 23} (omega (arith, whole)) in
-      drop-drop 16 6 words ∙ drop-cons words 22 0 (omega (arith, whole)) ∙ rw none
+      let none : drop 23 words ≡ [] = drop-of-length-le words {i = 23} (omega (arith, size mode words clear)) in
+      drop-drop 16 6 words ∙ drop-cons words 22 0 (omega (arith, size mode words clear)) ∙ rw none
 
   in-pieces : words ≡ (header ++ parts) ++ sum
   in-pieces =
@@ -169,12 +166,12 @@ module _ (mode : ℕ) (words : List ℕ) (clear : Clear (formRefusals mode words
       ∙ sym (append-assoc header parts sum)
 
   after : length (drop 6 words) ≡ 17
-  after = length-drop 6 words ∙ rw whole
+  after = length-drop 6 words ∙ rw (size mode words clear)
 
   carried-again : carriedOf (typeIn words) (secondIn words) ≡ map bitIn parts
   carried-again =
       let later : drop 8 (drop 6 words) ≡ drop 14 words = drop-drop 8 6 words in
-      let long : length (drop 14 words) ≡ 9 = length-drop 14 words ∙ rw whole in
+      let long : length (drop 14 words) ≡ 9 = length-drop 14 words ∙ rw (size mode words clear) in
       let first = eight-bits (take 8 (drop 6 words)) (length-take-le 8 (drop 6 words) (omega (arith, after))) in
       let next = eight-bits (take 8 (drop 14 words)) (length-take-le 8 (drop 14 words) (omega arith)) in
       ap₂ (λ (xs ys : List ℕ). xs ++ ys) first next

@@ -19,7 +19,7 @@ use Rattle.modes.specs.Modes.{rateAt}
 use Rattle.modes.specs.Calls.{informationIn}
 use Rattle.ltc.specs.Word.{wordWith, oddZeros, correctedOf}
 use Rattle.ltc.proofs.Zeros.{odd-by-count}
-use Rattle.ltc.proofs.Evened.{marked-same}
+use Rattle.ltc.proofs.Evened.{plain}
 
 module _ (rate : Rate) (r : Record) (fits : Writable (r .address) (r .groups)) where
   of-fields : (mark : Flag) → counted (infoOf rate (marked mark r)) ≡ allOnes (fieldsOf rate (marked mark r))
@@ -43,11 +43,8 @@ turned-back a b ha hb more even =
     sym (odd-by-count b hb) ∙ eq-eqb ((67 - counted b) % 2) 1 (omega (arith, ones-le 64 a ha, ones-le 64 b hb))
 
 module _ (mode : ℕ) (r : Record) (fits : Writable (r .address) (r .groups)) (unset : r .flags .mark ≡ No) where
-  plain : informationIn mode (marked No r) ≡ informationIn mode r
-  plain = ap (informationIn mode) (marked-same r No unset)
-
   more : counted (informationIn mode (marked Yes r)) ≡ counted (informationIn mode r) + 1
-  more = mark-counts (rateAt mode) r fits ∙ ap (λ (n : ℕ). counted n + 1) plain
+  more = mark-counts (rateAt mode) r fits ∙ ap (λ (n : ℕ). counted n + 1) (plain mode r unset)
 
   -- the mark that the word of a record has
   pub polarity : (mark : Flag) × (correctedOf mode r ≡ informationIn mode (marked mark r)) × (oddZeros (wordWith (correctedOf mode r)) ≡ false)
@@ -59,12 +56,12 @@ module _ (mode : ℕ) (r : Record) (fits : Writable (r .address) (r .groups)) (u
       go : (odd : Bool) → oddZeros (wordWith (informationIn mode r)) ≡ odd
           → (mark : Flag) × (correctedOf mode r ≡ informationIn mode (marked mark r)) × (oddZeros (wordWith (correctedOf mode r)) ≡ false)
       go true e = (Yes, rw e, rw e (turned (informationIn mode (marked Yes r)) (informationIn mode r) (low Yes) (info-below (rateAt mode) r fits) more e))
-      go false e = (No, rw e (sym plain), rw e e)
+      go false e = (No, rw e (sym (plain mode r unset)), rw e e)
 
   -- a word with even zeros whose record differs from r in its mark at most is the word of r
   pub only-polarity : (n : ℕ) (mark : Flag) → informationIn mode (marked mark r) ≡ n → oddZeros (wordWith n) ≡ false → correctedOf mode r ≡ n
   only-polarity n No e even =
-      let same : informationIn mode r ≡ n = sym plain ∙ e in
+      let same : informationIn mode r ≡ n = sym (plain mode r unset) ∙ e in
       let already : oddZeros (wordWith (informationIn mode r)) ≡ false = rw same even in
       rw already same
   only-polarity n Yes e even =
