@@ -11,7 +11,7 @@ use Rattle.refusals.proofs.ByNumber.{clear-at}
 use Rattle.runs.specs.declared.types.Written.the-variants.{Done, Refused}
 use Rattle.runs.proofs.Written.{unchanged, apart, done-or-refused, done-clear, has-room}
 use Rattle.record.specs.declared.types.Record.{Record}
-use Rattle.ltc.specs.Word.{wordOf}
+use Rattle.polarity.specs.Word.{wordOf}
 use Rattle.ltc.specs.Calls as ltc
 use Rattle.vitc.specs.Line.{lineOf}
 use Rattle.vitc.specs.Calls as vitc

@@ -23,7 +23,7 @@ use Rattle.modes.specs.Modes.{rateAt}
 use Rattle.modes.specs.Calls.{numberIn, addressIn}
 use Rattle.modes.proofs.Clocked.{number-at-rate, address-at-rate}
 use Rattle.trips.proofs.Numbers.{one-to-one}
-use Rattle.ltc.specs.Word.{wordOf}
+use Rattle.polarity.specs.Word.{wordOf}
 use Rattle.trips.proofs.Words as ltc
 use Rattle.vitc.specs.Line.{lineOf}
 use Rattle.trips.proofs.Lines as vitc

@@ -10,7 +10,7 @@ use Rattle.layout.specs.Layout.{join, layout}
 use Rattle.record.specs.Record.{fieldsOf as fieldsOfRecord, infoOf}
 use Rattle.modes.specs.Modes.{unknown, rateAt}
 use Rattle.modes.specs.Calls.{numberIn, addressIn, fieldsIn, spanIn}
-use Rattle.ltc.specs.Word.{syncWord, oddZeros, wordOf}
+use Rattle.polarity.specs.Word.{syncWord, oddZeros, wordOf}
 use Rattle.ltc.specs.Calls as ltc
 use Rattle.vitc.specs.Line.{each, onesFrom, groups, payload, crcOf, lineWith, lineOf}
 use Rattle.words.specs.Words.{dataWord, dataWords, sum9}

@@ -13,7 +13,7 @@ use Rattle.bits.proofs.Bit.{head-within, tail-within}
 use Rattle.bits.proofs.Neighbours.{Each}
 use Rattle.runs.proofs.Same.{both-true}
 use Rattle.trips.proofs.Apart.{gaps, NotBoth}
-use Rattle.ltc.specs.Word.{syncWord}
+use Rattle.polarity.specs.Word.{syncWord}
 use Rattle.register.specs.Held.{latest}
 use Rattle.following.specs.Following.{settled}
 use Rattle.following.proofs.Window.{ones-before}

@@ -14,7 +14,7 @@ use Rattle.refusals.proofs.ByNumber.{clear-at}
 use Rattle.bits.specs.Bits.{AllBits}
 use Rattle.bits.proofs.Bit.{head-within, tail-within}
 use Rattle.runs.specs.Run.{same}
-use Rattle.ltc.specs.Word.{syncWord}
+use Rattle.polarity.specs.Word.{syncWord}
 use Rattle.ltc.specs.Calls.{readRefusals}
 use Rattle.trips.proofs.Words.{read-clear, long}
 use Rattle.register.specs.declared.types.Reader.{Reader}

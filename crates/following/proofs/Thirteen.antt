@@ -17,7 +17,7 @@ use Rattle.record.specs.declared.types.Unpacked.the-variants.{Holds as Read, Re
 use Rattle.record.specs.Record.{marked}
 use Rattle.modes.specs.Modes.{unknown}
 use Rattle.modes.specs.Calls.{recordIn}
-use Rattle.ltc.specs.Word.{syncWord, infoIn}
+use Rattle.polarity.specs.Word.{syncWord, infoIn}
 use Rattle.ltc.specs.Calls.{readRefusals, readOf}
 use Rattle.register.specs.declared.types.Reader.{Reader}
 use Rattle.reader.specs.declared.types.Heard.{Heard}

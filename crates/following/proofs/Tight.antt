@@ -14,7 +14,7 @@ use Rattle.rates.specs.declared.types.Flag.the-variants.{No}
 use Rattle.record.specs.Record.{recordOf, marked}
 use Rattle.modes.specs.Modes.{unknown, rateAt}
 use Rattle.modes.specs.Calls.{recordIn}
-use Rattle.ltc.specs.Word.{syncWord, wordWith, oddZeros}
+use Rattle.polarity.specs.Word.{syncWord, wordWith, oddZeros}
 use Rattle.ltc.specs.Calls.{readOf}
 use Rattle.register.specs.declared.types.Reader.{Reader}
 use Rattle.reader.specs.declared.types.Heard.{Heard}

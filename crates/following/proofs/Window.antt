@@ -10,7 +10,7 @@ use lib.ListN.{length, getD, drop, length-append, length-drop, replicate, getD-r
 use lib.Seq.{drop-drop, drop-append-le, getD-drop, getD-append-add}
 use borrow.Author.Tests.{ltb-true, ltb-false}
 use Rattle.runs.proofs.Same.{not-same}
-use Rattle.ltc.specs.Word.{syncWord}
+use Rattle.polarity.specs.Word.{syncWord}
 use Rattle.reader.specs.declared.types.Heard.the-variants.{Nothing}
 use Rattle.register.specs.Held.{latest, push}
 use Rattle.reader.specs.Steps.{heardIn}

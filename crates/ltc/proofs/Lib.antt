@@ -1,7 +1,5 @@
--- Zeros     the zeros of a word by the language's count of ones
--- Heard     a word with its sync word is heard as its information bits
-pub mod Zeros
-pub mod Heard
+-- Sync      the two parts of 80 elements, and which sixteen are the sync word
+pub mod Sync
 -- Words     a word has 80 elements, and is stored as its two parts
 pub mod Words
 -- Parts     the parts of a word made of 64 bits; it is read as its information bits are heard

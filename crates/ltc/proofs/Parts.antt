@@ -12,8 +12,9 @@ use Rattle.bits.proofs.Bit.{bits-of-number, length-toBits, within-append}
 use Rattle.bits.proofs.Inverse.{value-toBits}
 use Rattle.runs.specs.Run.{same}
 use Rattle.runs.proofs.Same.{same-itself}
-use Rattle.ltc.specs.Word.{syncWord, wordWith, infoIn}
-use Rattle.ltc.specs.Calls.{readOf, heardOf}
+use Rattle.polarity.specs.Word.{syncWord, wordWith, infoIn}
+use Rattle.polarity.specs.Heard.{heardOf}
+use Rattle.ltc.specs.Calls.{readOf}
 
 sync-clean : someAbove 1 syncWord ≡ false
 unfolding someAbove syncWord

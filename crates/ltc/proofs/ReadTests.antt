@@ -20,9 +20,10 @@ use Rattle.runs.proofs.Same.{same-itself, gathered-is, not-gathered}
 use Rattle.record.specs.declared.types.Unpacked.{Unpacked}
 use Rattle.record.specs.declared.types.Unpacked.the-variants.{Refused as Unheld}
 use Rattle.modes.specs.Modes.{unknown}
-use Rattle.ltc.specs.Word.{syncWord, infoIn, wordWith, oddZeros}
-use Rattle.ltc.specs.Calls.{readOf, heardOf}
-use Rattle.ltc.proofs.Heard.{low-length, high-length, above-in-parts, sync-by-number, other-sync, word-is}
+use Rattle.polarity.specs.Word.{syncWord, infoIn, wordWith, oddZeros}
+use Rattle.polarity.specs.Heard.{heardOf}
+use Rattle.ltc.specs.Calls.{readOf}
+use Rattle.ltc.proofs.Sync.{low-length, high-length, above-in-parts, sync-by-number, other-sync, word-is}
 
 -- an answer that is not the first of its cases, as the `else` of a `let` is told it: by the place of the case
 abbrev Another : Gathered → Type 0

@@ -7,13 +7,10 @@ use mathlib.Core.List.{List}
 use Rattle.refusals.specs.Table.{theOrder}
 use Rattle.refusals.specs.Answer.{inOrder}
 use Rattle.record.specs.declared.types.Record.{Record}
-use Rattle.ltc.specs.Calls.{readRefusals, heardRefusals, writtenRows}
+use Rattle.ltc.specs.Calls.{readRefusals, writtenRows}
 
 pub read-rows-in-order : (mode : ℕ) (word : List ℕ) → inOrder theOrder (readRefusals mode word) ≡ true
 read-rows-in-order mode word = refl
-
-pub heard-rows-in-order : (mode info : ℕ) → inOrder theOrder (heardRefusals mode info) ≡ true
-heard-rows-in-order mode info = refl
 
 pub written-rows-in-order : (mode : ℕ) (r : Record) (start : ℕ) (run : List ℕ) → inOrder theOrder (writtenRows mode r start run) ≡ true
 unfolding writtenRows

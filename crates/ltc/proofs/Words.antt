@@ -10,7 +10,7 @@ use borrow.Rule.Slice.PartMut.{midOf, postOf, putMid}
 use Rattle.bits.specs.Bits.{toBits}
 use Rattle.bits.proofs.Bit.{length-toBits}
 use Rattle.record.specs.declared.types.Record.{Record}
-use Rattle.ltc.specs.Word.{syncWord, wordWith, correctedOf, wordOf}
+use Rattle.polarity.specs.Word.{syncWord, wordWith, correctedOf, wordOf}
 
 pub word-length : (mode : ℕ) (r : Record) → length (wordOf mode r) ≡ 80
 unfolding wordOf syncWord

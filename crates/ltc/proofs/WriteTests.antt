@@ -28,7 +28,7 @@ use Rattle.modes.specs.Modes.{unknown, rateAt, withMode, ratedOf}
 use Rattle.modes.specs.Calls.{informationIn, writeRefusalsIn, packedIn}
 use Rattle.modes.proofs.Told.{refused-as, packed-is}
 use Rattle.modes.proofs.ByRate.{packs-at-rate, rate-told, rate-refused}
-use Rattle.ltc.specs.Word.{wordWith, oddZeros, correctedOf, wordOf}
+use Rattle.polarity.specs.Word.{wordWith, oddZeros, correctedOf, wordOf}
 use Rattle.ltc.specs.Calls.{writtenRows, writtenOf, runOf}
 use Rattle.ltc.proofs.Words.{word-length}
 use Rattle.ltc.proofs.Evened.{is-no, set-adds, set-below}

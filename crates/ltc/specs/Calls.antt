@@ -18,7 +18,7 @@ use Rattle.record.specs.Record.{marked}
 use Rattle.runs.specs.declared.types.Written.{Written}
 use Rattle.modes.specs.Calls.{recordIn, bitsRefusalsIn, writeRefusalsIn}
 use Rattle.modes.specs.Modes.{unknown, withMode}
-use Rattle.ltc.specs.Word.{syncWord, wordWith, infoIn, oddZeros, wordOf}
+use Rattle.polarity.specs.Word.{syncWord, infoIn, oddZeros, wordOf}
 
 -- reading: 1 not exactly 80 elements; 2 a mode that is unknown; 3 an element above 1; 4 another sync word; 5 odd zeros; then the record's
 abbrev pub readRefusals : ℕ → List ℕ → List Refusal
@@ -32,13 +32,6 @@ readRefusals mode word =
 
 unfoldable pub readOf : ℕ → List ℕ → Unpacked
 readOf mode word = answer Unheld (readRefusals mode word) (Holds (marked No (recordIn mode (infoIn word))))
-
--- the same of 64 information bits after which the sync word has been seen
-abbrev pub heardRefusals : ℕ → ℕ → List Refusal
-heardRefusals mode info = withMode mode ((wrong-check when oddZeros (wordWith info)) ∷ bitsRefusalsIn mode info)
-
-unfoldable pub heardOf : ℕ → ℕ → Unpacked
-heardOf mode info = answer Unheld (heardRefusals mode info) (Holds (marked No (recordIn mode info)))
 
 -- writing: 2; 8, 9 and 10 of the record; 11 a mark; 12 no room for 80 elements from the start
 unfoldable pub writtenRows : ℕ → Record → ℕ → List ℕ → List Refusal

@@ -14,8 +14,9 @@ use Rattle.bits.proofs.Bit.{length-toBits}
 use Rattle.bits.proofs.Inverse.{value-toBits}
 use Rattle.runs.specs.Run.{same}
 use Rattle.runs.proofs.Same.{same-itself, not-same}
-use Rattle.ltc.specs.Word.{syncWord, wordWith}
-use Rattle.ltc.specs.Calls.{readOf, heardOf}
+use Rattle.polarity.specs.Word.{syncWord, wordWith}
+use Rattle.polarity.specs.Heard.{heardOf}
+use Rattle.ltc.specs.Calls.{readOf}
 use Rattle.ltc.proofs.Parts.{read-is-heard}
 use Rattle.register.specs.declared.types.Reader.{Reader}
 use Rattle.reader.specs.declared.types.Heard.the-variants.{Nothing}

@@ -12,7 +12,7 @@ use Rattle.runs.specs.Run.{same}
 use Rattle.record.specs.declared.types.Unpacked.{Unpacked}
 use Rattle.record.specs.declared.types.Unpacked.the-variants.{Holds, Refused as Unheld}
 use Rattle.modes.specs.Modes.{unknown}
-use Rattle.ltc.specs.Word.{syncWord}
+use Rattle.polarity.specs.Word.{syncWord}
 use Rattle.ltc.specs.Calls.{readOf}
 use Rattle.register.specs.declared.types.Reader.{Reader}
 use Rattle.reader.specs.declared.types.Heard.{Heard}

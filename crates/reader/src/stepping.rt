@@ -49,7 +49,7 @@ fn heard(reader: Reader) -> Heard
     if reader.held < 80 {
         return Heard::Nothing;
     }
-    let found = ltc::read_info(reader.mode, reader.info);
+    let found = polarity::read_info(reader.mode, reader.info);
     match found {
         Unpacked::Holds(held) => Heard::Accepted(held),
         Unpacked::Refused(number) => Heard::Refused(number),

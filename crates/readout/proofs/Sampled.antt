@@ -6,7 +6,7 @@ use Rattle.bits.specs.Bits.{value, toBits, someAbove, howMany}
 use Rattle.runs.specs.Run.{same}
 use Rattle.record.specs.Record.{recordOf}
 use Rattle.modes.specs.Modes.{unknown, rateAt}
-use Rattle.ltc.specs.Word.{syncWord, oddZeros}
+use Rattle.polarity.specs.Word.{syncWord, oddZeros}
 use Rattle.ltc.specs.Calls.{readOf}
 use Rattle.register.specs.Held.{readerWith, unreached}
 use Rattle.reader.specs.Steps.{heardIn, steppedOf}

@@ -16,7 +16,7 @@ use Rattle.record.specs.declared.types.Record.{Record}
 use Rattle.record.specs.declared.types.Unpacked.the-variants.{Holds}
 use Rattle.trips.proofs.Digits.{digits, small-digits}
 use Rattle.modes.specs.Modes.{rateAt}
-use Rattle.ltc.specs.Word.{syncWord, wordWith, infoIn}
+use Rattle.polarity.specs.Word.{syncWord, wordWith, infoIn}
 use Rattle.ltc.specs.Calls.{readRefusals, readOf}
 use Rattle.trips.proofs.Words.{read-clear, whole}
 

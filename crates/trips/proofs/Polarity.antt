@@ -17,8 +17,8 @@ use Rattle.layout.proofs.Fields.{allOnes, ones-join}
 use Rattle.record.proofs.Marks.{fields-below, info-below, one-bit}
 use Rattle.modes.specs.Modes.{rateAt}
 use Rattle.modes.specs.Calls.{informationIn}
-use Rattle.ltc.specs.Word.{wordWith, oddZeros, correctedOf}
-use Rattle.ltc.proofs.Zeros.{odd-by-count}
+use Rattle.polarity.specs.Word.{wordWith, oddZeros, correctedOf}
+use Rattle.polarity.proofs.Zeros.{odd-by-count}
 use Rattle.ltc.proofs.Evened.{plain}
 
 module _ (rate : Rate) (r : Record) (fits : Writable (r .address) (r .groups)) where

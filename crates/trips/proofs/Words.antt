@@ -33,9 +33,10 @@ use Rattle.trips.proofs.Records.{no-record, written-of-read as info-of-
 use Rattle.modes.specs.Calls.{informationIn, recordIn, writeRefusalsIn, packedIn, unpackedIn}
 use Rattle.modes.specs.Modes.{rateAt, withMode}
 use Rattle.trips.proofs.ByMode.{one-to-one}
-use Rattle.ltc.specs.Word.{syncWord, wordWith, infoIn, oddZeros, correctedOf, wordOf}
+use Rattle.polarity.specs.Word.{syncWord, wordWith, infoIn, oddZeros, correctedOf, wordOf}
 use Rattle.ltc.specs.Calls.{readRefusals, readOf, writtenRows, writtenOf, runOf}
-use Rattle.ltc.proofs.Heard.{withoutMark, heard-is, low-length, above-in-parts, word-is}
+use Rattle.polarity.proofs.Heard.{withoutMark, heard-is}
+use Rattle.ltc.proofs.Sync.{low-length, above-in-parts, word-is}
 use Rattle.ltc.proofs.Words.{word-length}
 use Rattle.ltc.proofs.Evened.{is-no, marked-same}
 use Rattle.ltc.proofs.Parts.{read-is-heard}

@@ -6,7 +6,7 @@ use mathlib.Core.Bool.{Bool, true, false, cond}
 use borrow.Author.Needs.{needs}
 use Rattle.rates.specs.declared.types.Rate.{Rate}
 use Rattle.layout.specs.Flags.{places}
-use Rattle.ltc.specs.Word.{wordWith, oddZeros}
+use Rattle.polarity.specs.Word.{wordWith, oddZeros}
 use Rattle.ltc.proofs.writing.corrected.Statement.{statement}
 use Rattle.ltc.proofs.writing.corrected.Tie as tie
 

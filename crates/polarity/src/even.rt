@@ -2,7 +2,7 @@
 ghost use mathlib.Core.Path.{_≡_};
 ghost use Rattle.rates.specs.declared.types.Flag.the-variants.{No};
 ghost use Rattle.record.specs.Record.{marked};
-ghost use Rattle.ltc.specs.Word.{wordWith, oddZeros};
+ghost use Rattle.polarity.specs.Word.{wordWith, oddZeros};
 use rates::Flag;
 use record::Flags;
 use record::Record;

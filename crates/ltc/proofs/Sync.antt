@@ -1,4 +1,4 @@
--- A word of 80 bits that ends in the sync word is heard as its information bits.
+-- The two parts of 80 elements, and which sixteen are the sync word.
 -- Assumes nothing.
 use Prim.Native.Nat.{ℕ}
 use mathlib.Core.Path.{_≡_, refl, sym, ap, ap₂, _∙_}
@@ -7,30 +7,13 @@ use mathlib.Core.List.{List, _++_}
 use native.Mathlib.Omega.{arith}
 use lib.ListN.{length, take, drop, length-drop, take-append-drop}
 use lib.Seq.{length-take-le}
-use Rattle.refusals.proofs.Answered.{carried}
 use Rattle.bits.specs.Bits.{value, toBits, someAbove}
 use Rattle.bits.proofs.Bit.{above-append}
 use Rattle.bits.proofs.Inverse.{toBits-value}
 use Rattle.runs.specs.Run.{same}
 use Rattle.runs.proofs.Same.{not-same}
-use Rattle.rates.specs.declared.types.Flag.the-variants.{No}
 use Rattle.record.specs.declared.types.Unpacked.{Unpacked}
-use Rattle.record.specs.declared.types.Unpacked.the-variants.{Holds, Refused as Unheld}
-use Rattle.record.specs.Record.{marked}
-use Rattle.modes.specs.Calls.{recordIn, bitsRefusalsIn, unpackedIn}
-use Rattle.modes.specs.Modes.{withMode}
-use Rattle.ltc.specs.Word.{syncWord, wordWith, infoIn, oddZeros}
-use Rattle.ltc.specs.Calls.{heardOf}
-
--- an answer with the mark taken off its record
-abbrev pub withoutMark : Unpacked → Unpacked
-withoutMark (Holds r) = Holds (marked No r)
-withoutMark (Unheld n) = Unheld n
-
--- where the zeros are even, what is heard is what the record says, the mark taken off
-pub heard-is : (mode info : ℕ) → oddZeros (wordWith info) ≡ false → heardOf mode info ≡ withoutMark (unpackedIn mode info)
-unfolding heardOf unpackedIn
-heard-is mode info even = rw even (sym (carried withoutMark Unheld (Holds (recordIn mode info)) (withMode mode (bitsRefusalsIn mode info))))
+use Rattle.polarity.specs.Word.{syncWord, wordWith, infoIn}
 
 module _ (word : List ℕ) (long : length word ≡ 80) where
   -- the two parts of a word

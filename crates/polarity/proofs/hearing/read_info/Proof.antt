@@ -1,4 +1,4 @@
--- `ltc::reading::read_info` meets its contract: odd zeros are refused, and else the record answers, its mark taken off.
+-- `polarity::hearing::read_info` meets its contract: odd zeros are refused, and else the record answers, its mark taken off.
 -- Assumes nothing.
 use mathlib.Core.Path.{_≡_, ap, sym, _∙_}
 use mathlib.Core.Bool.{Bool, true, false}
@@ -11,11 +11,11 @@ use Rattle.record.specs.declared.types.Unpacked.the-variants.{Holds, Refused as
 use Rattle.record.specs.Record.{marked}
 use Rattle.modes.specs.Modes.{unknown}
 use Rattle.modes.specs.Calls.{unpackedIn}
-use Rattle.ltc.specs.Word.{wordWith, oddZeros}
-use Rattle.ltc.specs.Calls.{heardOf}
-use Rattle.ltc.proofs.Heard.{withoutMark, heard-is}
-use Rattle.ltc.proofs.reading.read_info.Statement.{statement}
-use Rattle.ltc.proofs.reading.read_info.Tie as tie
+use Rattle.polarity.specs.Word.{wordWith, oddZeros}
+use Rattle.polarity.specs.Heard.{heardOf}
+use Rattle.polarity.proofs.Heard.{withoutMark, heard-is}
+use Rattle.polarity.proofs.hearing.read_info.Statement.{statement}
+use Rattle.polarity.proofs.hearing.read_info.Tie as tie
 
 module _ (mode info : ℕ) (past : Bool) (asked : past ≡ unknown mode) where
   no-mode : past ≡ true → Unheld 2 ≡ heardOf mode info

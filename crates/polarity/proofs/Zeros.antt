@@ -7,7 +7,7 @@ use lib.Dec.{eqb}
 use lib.Count.{ones as counted, ones-le}
 use Rattle.bits.specs.Bits.{toBits, howMany, zerosIn}
 use Rattle.bits.proofs.Count.{count-zeros, howMany-append}
-use Rattle.ltc.specs.Word.{syncWord, wordWith, oddZeros}
+use Rattle.polarity.specs.Word.{syncWord, wordWith, oddZeros}
 
 pub word-zeros : (info : ℕ) → info < 2 ^ 64 → zerosIn (wordWith info) ≡ 67 - counted info
 unfolding syncWord howMany

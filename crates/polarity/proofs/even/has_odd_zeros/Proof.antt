@@ -1,9 +1,9 @@
--- `ltc::polarity::has_odd_zeros` meets its contract: the zeros of the word are what the count of ones leaves of 67.
+-- `polarity::even::has_odd_zeros` meets its contract: the zeros of the word are what the count of ones leaves of 67.
 -- Assumes nothing.
 use native.Mathlib.Omega.{arith}
-use Rattle.ltc.proofs.Zeros.{odd-by-count, few-ones}
-use Rattle.ltc.proofs.polarity.has_odd_zeros.Statement.{statement}
-use Rattle.ltc.proofs.polarity.has_odd_zeros.Tie as tie
+use Rattle.polarity.proofs.Zeros.{odd-by-count, few-ones}
+use Rattle.polarity.proofs.even.has_odd_zeros.Statement.{statement}
+use Rattle.polarity.proofs.even.has_odd_zeros.Tie as tie
 
 sub-zeros : tie.Need-sub-zeros
 sub-zeros c = omega (arith, few-ones (c .args .info) (c .fits .info .fits))

@@ -1,0 +1,9 @@
+// The polarity of a linear word: its 80 bits hold an even number of zeros, or it is turned away.
+//
+// even       an even number of zeros, and a record without the bit that makes it so
+// hearing    from 64 information bits after which the sync word has been seen, to a record
+mod even;
+mod hearing;
+
+pub use even::has_odd_zeros;
+pub use hearing::read_info;
