@@ -41,11 +41,10 @@ fn request_named(name: &[u8]) -> Request {
 
 fn take_fields(call: Call, line: &[u8], cursor: usize, n: &mut Numbers) -> bool {
     match call {
-        Call::Number => take_numbers(line, cursor, b"bfbbbb", n),
+        Call::Number | Call::Fields => take_numbers(line, cursor, b"bfbbbb", n),
         Call::Address => take_numbers(line, cursor, b"bfn", n),
         Call::Distance => take_numbers(line, cursor, b"bfbbbbbbbb", n),
         Call::Add => take_numbers(line, cursor, b"bfbbbbc", n),
-        Call::Fields => take_numbers(line, cursor, b"bfbbbb", n),
         Call::KindNumber => take_numbers(line, cursor, b"kn", n),
         Call::KindFields => take_numbers(line, cursor, b"kbbbb", n),
     }

@@ -1,5 +1,5 @@
-// Requests for the three carriers: `ltc-read`, `vitc-read`, `atc-read`, `ltc-write`, `vitc-write`, `atc-write`. What is quoted in this crate
-// is docs/REHEARSAL.md.
+// Requests for the three carriers: `ltc-read`, `vitc-read`, `atc-read`, `ltc-write`, `vitc-write`, `atc-write`.
+// What is quoted in this crate is docs/REHEARSAL.md.
 //
 // types      what is asked for
 // answering  which request a line is, and its answer
