@@ -10,7 +10,8 @@ use Rattle.runs.specs.Run.{placed}
 use Rattle.text.specs.Ascii.{zeroDigit}
 use Rattle.characters.specs.Characters.{isSkipped, isDigit, bitsIn, siftedOf}
 use Rattle.characters.specs.Loops.{Sifting}
-use Rattle.characters.proofs.Sifts.{digit-high, behind, sift-long, sift-skips, sift-takes, sift-stops}
+use Rattle.characters.proofs.Meant.{digit-high}
+use Rattle.characters.proofs.Sifts.{behind, sift-long, sift-skips, sift-takes, sift-stops}
 
 pub is-high : (c : ℕ) (digit : Bool) → digit ≡ isDigit c → digit ≡ true → zeroDigit ≤ c
 is-high c digit asked t = digit-high c (sym asked ∙ t)

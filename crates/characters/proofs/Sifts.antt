@@ -2,50 +2,18 @@
 -- Assumes nothing.
 use Prim.Native.Nat.{ℕ, suc, _+_, _-_, _≤_, _<_}
 use mathlib.Core.Path.{_≡_, refl, sym, ap, _∙_}
-use mathlib.Core.Bool.{Bool, true, false, false≢true}
+use mathlib.Core.Bool.{true, false}
 use mathlib.Core.List.{List, [], _∷_, _++_, append-nil}
 use native.Mathlib.Numerals.{add-one}
 use native.Mathlib.Omega.{arith}
 use lib.ListN.{length, take, drop, set, getD, length-append}
-use lib.Dec.{eqb}
 use lib.Seq.{take-suc, take-all, length-take-le, split-at}
-use borrow.Author.Tests.{eqb-true}
 use Rattle.runs.specs.Run.{placed}
 use Rattle.text.specs.Ascii.{zeroDigit}
-use Rattle.characters.specs.Characters.{isSkipped, isDigit, bitsIn, goesOn, siftedOf, oneDigit}
-use Rattle.characters.specs.Loops.{Sifting}
 use Rattle.text.proofs.Laid.{placed-none, placed-more, placed-length, read-past}
-
--- of characters one after the other none ends the reading where none does in either part, and their bits follow one another
-pub in-parts : (cs ds : List ℕ) → goesOn cs ≡ true → (bitsIn (cs ++ ds) ≡ bitsIn cs ++ bitsIn ds) × (goesOn (cs ++ ds) ≡ goesOn ds)
-unfolding bitsIn goesOn
-in-parts [] ds on = (refl, refl)
-in-parts (c ∷ cs) ds on = go (isSkipped c) (isDigit c) refl refl (in-parts cs ds)
-  where
-    go : (s d : Bool) → isSkipped c ≡ s → isDigit c ≡ d
-        → (goesOn cs ≡ true → (bitsIn (cs ++ ds) ≡ bitsIn cs ++ bitsIn ds) × (goesOn (cs ++ ds) ≡ goesOn ds))
-        → (bitsIn (c ∷ cs ++ ds) ≡ bitsIn (c ∷ cs) ++ bitsIn ds) × (goesOn (c ∷ cs ++ ds) ≡ goesOn ds)
-    go true d s t rest = let r = rest (rw s at on) in (rw s (r .0), rw s (r .1))
-    go false true s t rest = let r = rest (rw (s, t) at on) in (rw (s, t) (ap (λ (l : List ℕ). (c - zeroDigit) ∷ l) (r .0)), rw (s, t) (r .1))
-    go false false s t rest = absurd (false≢true (rw (s, t) at on))
-
--- a character stands for at most one bit
-pub few-bits : (cs : List ℕ) → length (bitsIn cs) ≤ length cs
-unfolding bitsIn
-few-bits [] = omega arith
-few-bits (c ∷ cs) = go (isSkipped c) (isDigit c) refl refl (few-bits cs)
-  where
-    go : (s d : Bool) → isSkipped c ≡ s → isDigit c ≡ d → length (bitsIn cs) ≤ length cs → length (bitsIn (c ∷ cs)) ≤ suc (length cs)
-    go true d s t h = rw s (omega arith)
-    go false true s t h = rw (s, t) (omega arith)
-    go false false s t h = rw (s, t) (omega arith)
-
-pub digit-high : (c : ℕ) → isDigit c ≡ true → zeroDigit ≤ c
-digit-high c e = go (eqb c zeroDigit) refl
-  where
-    go : (t : Bool) → eqb c zeroDigit ≡ t → zeroDigit ≤ c
-    go true t = omega (arith, eqb-true c zeroDigit t)
-    go false t = omega (arith, eqb-true c oneDigit (rw t at e))
+use Rattle.characters.specs.Characters.{isSkipped, isDigit, bitsIn, goesOn, siftedOf}
+use Rattle.characters.specs.Loops.{Sifting}
+use Rattle.characters.proofs.Meant.{in-parts, few-bits}
 
 pub sift-begins : (whole : List ℕ) → Sifting whole whole 0 0
 unfolding bitsIn goesOn

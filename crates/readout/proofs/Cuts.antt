@@ -3,7 +3,7 @@
 -- Assumes nothing.
 use Prim.Native.Nat.{ℕ, zero, suc, _+_, _-_, _%_, _^_, _<_}
 use mathlib.Core.Path.{_≡_, refl, sym, ap, _∙_}
-use mathlib.Core.Bool.{Bool, true, false, cond, true≢false}
+use mathlib.Core.Bool.{Bool, true, false, cond}
 use mathlib.Core.List.{List, [], _∷_, _++_, append-nil, append-assoc}
 use native.Mathlib.Numerals.{unary-clauses}
 use native.Mathlib.Omega.{arith}
@@ -16,8 +16,8 @@ use Rattle.reader.specs.Steps.{steppedOf}
 use Rattle.following.specs.Reach.{fed, answers}
 use Rattle.following.proofs.Cut.{fed-cut, answers-cut}
 use Rattle.lines.specs.Lines.{lineOf}
-use Rattle.characters.specs.Characters.{isSkipped, isDigit, bitsIn, goesOn}
-use Rattle.characters.proofs.Sifts.{in-parts}
+use Rattle.characters.specs.Characters.{bitsIn, goesOn}
+use Rattle.characters.proofs.Meant.{in-parts, ended}
 use Rattle.scribe.specs.declared.types.Scribe.{Scribe}
 use Rattle.scribe.specs.Told.{counted, oneOn, linesOf, textOf, leftAfter, scribeAfter}
 use Rattle.scribe.proofs.Lined.{counted-on}
@@ -41,18 +41,6 @@ left-after s piece some = go (ltb 0 came) (goesOn (counted s piece)) refl
     go true false t = rw t
     go false true t = rw t (omega (arith, length-take (s .left) piece, ltb-false 0 came t))
     go false false t = rw t
-
--- after a character that ends the reading none stands for a bit
-ended : (cs ds : List ℕ) → goesOn cs ≡ false → (bitsIn (cs ++ ds) ≡ bitsIn cs) × (goesOn (cs ++ ds) ≡ false)
-unfolding bitsIn goesOn
-ended [] ds off = absurd (true≢false off)
-ended (c ∷ cs) ds off = go (isSkipped c) (isDigit c) refl refl (ended cs ds)
-  where
-    go : (s d : Bool) → isSkipped c ≡ s → isDigit c ≡ d → (goesOn cs ≡ false → (bitsIn (cs ++ ds) ≡ bitsIn cs) × (goesOn (cs ++ ds) ≡ false))
-        → (bitsIn (c ∷ cs ++ ds) ≡ bitsIn (c ∷ cs)) × (goesOn (c ∷ cs ++ ds) ≡ false)
-    go true d s t rest = let r = rest (rw s at off) in (rw s (r .0), rw s (r .1))
-    go false true s t rest = let r = rest (rw (s, t) at off) in (rw (s, t, r .0), rw (s, t) (r .1))
-    go false false s t rest = (rw (s, t), rw (s, t))
 
 one-answer-each : (bits : List ℕ) (r : Reader) → length (answers r bits) ≡ length bits
 unfolding answers

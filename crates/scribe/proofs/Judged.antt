@@ -30,6 +30,26 @@ unfolding going
 quiet-at-0 r [] = refl
 quiet-at-0 r (element ∷ elements) = refl
 
+module _ (reader : Reader) (run : List ℕ) {asked : Blocked} {found : Verdict} (took : asked ≡ blockedOf reader 0 run) (says : found ≡ verdictIn (asked .heard)) where
+  judged : found ≡ verdictIn (blockedOf reader 0 run .heard)
+  judged = says ∙ rw took
+
+  pub sound-so : found ≡ Sound → Passing reader
+  unfolding blockedOf
+  sound-so e = go (unknown (reader .mode)) refl (unreached reader) refl
+    where
+      given : Sound ≡ verdictIn (blockedOf reader 0 run .heard)
+      given = sym e ∙ judged
+
+      go : (m : Bool) → unknown (reader .mode) ≡ m → (u : Bool) → unreached reader ≡ u → Passing reader
+      go true m u v =
+          let two : Sound ≡ Unsound 2 = rw m at given in
+          let z : _≡_ {A = ℕ} 0 1 = cc in absurd (omega arith)
+      go false m true v =
+          let thirteen : Sound ≡ Unsound 13 = rw (m, v) at given in
+          let z : _≡_ {A = ℕ} 0 1 = cc in absurd (omega arith)
+      go false m false v = record { known = m; passes = v }
+
 not-told : (telling : Telling) (n : ℕ) → Refused n ≡ Lines telling → ⊥
 not-told telling n e = let z : _≡_ {A = ℕ} 0 1 = cc in omega arith
 
@@ -43,15 +63,12 @@ module _ (before : Scribe) (characters out : List ℕ) where
       (same (bitsIn (counted before characters)) characters n e, same (textOf before characters) out n e)
 
   module _ (run : List ℕ) {asked : Blocked} {found : Verdict} (took : asked ≡ blockedOf (before .reader) 0 run) (says : found ≡ verdictIn (asked .heard)) where
-    judged : found ≡ verdictIn (blockedOf (before .reader) 0 run .heard)
-    judged = says ∙ rw took
-
     pub turned-away : (n : ℕ) → found ≡ Unsound n → ToldOf before characters out (Refused n) characters out
     unfolding toldOf charactersAfter outOf blockedOf
     turned-away n e = go (unknown (before .reader .mode)) refl (unreached (before .reader)) refl
       where
         given : Unsound n ≡ verdictIn (blockedOf (before .reader) 0 run .heard)
-        given = sym e ∙ judged
+        given = sym e ∙ judged (before .reader) run took says
 
         go : (m : Bool) → unknown (before .reader .mode) ≡ m → (u : Bool) → unreached (before .reader) ≡ u → ToldOf before characters out (Refused n) characters out
         go true m u v =
@@ -65,22 +82,6 @@ module _ (before : Scribe) (characters out : List ℕ) where
         go false m false v =
             let none : Unsound n ≡ Sound = rw (m, v, quiet-at-0 (before .reader) run) at given in
             let z : _≡_ {A = ℕ} 0 1 = cc in absurd (omega arith)
-
-    pub sound-so : found ≡ Sound → Passing (before .reader)
-    unfolding blockedOf
-    sound-so e = go (unknown (before .reader .mode)) refl (unreached (before .reader)) refl
-      where
-        given : Sound ≡ verdictIn (blockedOf (before .reader) 0 run .heard)
-        given = sym e ∙ judged
-
-        go : (m : Bool) → unknown (before .reader .mode) ≡ m → (u : Bool) → unreached (before .reader) ≡ u → Passing (before .reader)
-        go true m u v =
-            let two : Sound ≡ Unsound 2 = rw m at given in
-            let z : _≡_ {A = ℕ} 0 1 = cc in absurd (omega arith)
-        go false m true v =
-            let thirteen : Sound ≡ Unsound 13 = rw (m, v) at given in
-            let z : _≡_ {A = ℕ} 0 1 = cc in absurd (omega arith)
-        go false m false v = record { known = m; passes = v }
 
   module _ (sound : Passing (before .reader)) where
     pub no-room-left : length out < 64 * length characters → ToldOf before characters out (Refused 12) characters out

@@ -1,46 +1,26 @@
 -- The characters that count, sifted where they stand, are the bits that are told, and the lines of these are those of the piece.
 -- Assumes nothing.
-use Prim.Native.Nat.{ℕ, _+_, _-_, _*_, _≤_, min}
+use Prim.Native.Nat.{ℕ, _+_, _*_, _≤_, min}
 use mathlib.Core.Path.{_≡_, refl, sym, ap, _∙_}
 use mathlib.Core.Bool.{Bool, true, false}
-use mathlib.Core.List.{List, [], _∷_, _++_, append-assoc}
+use mathlib.Core.List.{List, _++_, append-assoc}
 use native.Mathlib.Omega.{arith}
-use lib.Dec.{ltb, eqb}
+use lib.Dec.{ltb}
 use lib.ListN.{length, take, drop, take-append-drop}
 use lib.Seq.{take-all, length-take-le, take-at, drop-append-le}
-use borrow.Author.Tests.{ltb-true, ltb-false, eqb-true}
-use Rattle.bits.specs.Bits.{AllBits, someAbove}
-use Rattle.bits.proofs.Bit.{within-cons}
+use borrow.Author.Tests.{ltb-true, ltb-false}
+use Rattle.bits.specs.Bits.{AllBits}
 use Rattle.runs.specs.Run.{placed}
 use Rattle.following.specs.Reach.{answers}
-use Rattle.text.specs.Ascii.{zeroDigit}
 use Rattle.text.proofs.Laid.{starts-within}
 use Rattle.characters.specs.declared.types.Sifted.{Sifted}
-use Rattle.characters.specs.Characters.{isSkipped, isDigit, oneDigit, bitsIn, goesOn, siftedOf}
-use Rattle.characters.proofs.Sifts.{few-bits}
+use Rattle.characters.specs.Characters.{bitsIn, goesOn, siftedOf}
+use Rattle.characters.proofs.Meant.{few-bits, sifted-clean}
 use Rattle.scribe.specs.declared.types.Scribe.{Scribe}
 use Rattle.scribe.specs.declared.types.Block.{Block}
 use Rattle.scribe.specs.Told.{counted, linesOf, textOf, leftAfter, scribeAfter, tellingOf}
 use Rattle.scribe.specs.Blocks.{runTold}
 use Rattle.scribe.specs.Loops.{Ready}
-
--- a character 0 or 1 is the bit 0 or 1
-digit-low : (c : ℕ) → isDigit c ≡ true → c - zeroDigit ≤ 1
-digit-low c e = go (eqb c zeroDigit) refl
-  where
-    go : (t : Bool) → eqb c zeroDigit ≡ t → c - zeroDigit ≤ 1
-    go true t = omega (arith, eqb-true c zeroDigit t)
-    go false t = omega (arith, eqb-true c oneDigit (rw t at e))
-
-pub sifted-clean : (cs : List ℕ) → AllBits (bitsIn cs)
-unfolding bitsIn someAbove
-sifted-clean [] = refl
-sifted-clean (c ∷ cs) = go (isSkipped c) refl (isDigit c) refl (sifted-clean cs)
-  where
-    go : (s : Bool) → isSkipped c ≡ s → (d : Bool) → isDigit c ≡ d → AllBits (bitsIn cs) → AllBits (bitsIn (c ∷ cs))
-    go true s d t rest = rw s rest
-    go false s true t rest = rw (s, t) (within-cons 1 (c - zeroDigit) (bitsIn cs) (digit-low c t) rest)
-    go false s false t rest = rw (s, t)
 
 -- so many as there are of the characters that may still come
 pub first-of : (left : ℕ) (xs : List ℕ) → take (min left (length xs)) xs ≡ take left xs

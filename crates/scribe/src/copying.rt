@@ -2,7 +2,6 @@
 ghost use mathlib.Core.Path.{_≡_};
 ghost use Prim.Native.Nat.{_≤_, min};
 ghost use Rattle.following.specs.Reach.{answers};
-ghost use Rattle.reader.specs.Feeding.{Passing};
 ghost use Rattle.bits.specs.Bits.{AllBits};
 ghost use Rattle.runs.specs.Run.{placed};
 ghost use Rattle.text.specs.Gathered.{outAfter};
@@ -122,17 +121,6 @@ fn telling(before: Scribe, characters: &mut [u8], out: &mut [u8]) -> Telling
     }
 }
 
-// The same, unless there is no room.
-fn told_with_room(before: Scribe, characters: &mut [u8], out: &mut [u8]) -> Told
-    requires { ⌜ Passing (before .reader) ⌝ }
-    ensures { λ t. ⌜ ToldOf before (now (characters .entry)) (now (out .entry)) t (now (characters .exit)) (now (out .exit)) ⌝ }
-{
-    if out.len() / lines::ROOM < characters.len() {
-        return Told::Refused(refusals::NO_ROOM);
-    }
-    Told::Lines(telling(before, characters, out))
-}
-
 // What a reader that is asked for no bit says of its mode and state.
 fn verdict(heard: Heard) -> Verdict
     ensures { λ v. ⌜ v ≡ verdictIn heard ⌝ }
@@ -154,6 +142,11 @@ pub fn tell(before: Scribe, characters: &mut [u8], out: &mut [u8]) -> Told
     let found = verdict(heard);
     match found {
         Verdict::Refused(number) => Told::Refused(number),
-        Verdict::Sound => told_with_room(before, characters, out),
+        Verdict::Sound => {
+            if out.len() / lines::ROOM < characters.len() {
+                return Told::Refused(refusals::NO_ROOM);
+            }
+            Told::Lines(telling(before, characters, out))
+        }
     }
 }

@@ -1,11 +1,16 @@
 -- `readout::told_piece` meets its contract: there is room for what is told, so that it is not turned away.
 -- Assumes nothing.
+use Prim.Native.Nat.{ℕ, _*_, _≤_}
+use mathlib.Core.Path.{_≡_}
 use native.Mathlib.Omega.{arith}
-use lib.ListN.{length-take}
 use borrow.Author.Needs.{needs}
 use Rattle.readout.proofs.Told.{lines-told, never-refused}
 use Rattle.readout.proofs.told_piece.Statement.{statement}
 use Rattle.readout.proofs.told_piece.Tie as tie
+
+-- no more came than the piece has places for
+room : {count came now then places : ℕ} → count ≡ came → count ≤ now → now ≡ then → 64 * then ≤ places → 64 * came ≤ places
+room all within same enough = omega arith
 
 read-requires : tie.Need-read-requires
 read-requires c κs = search needs
@@ -36,7 +41,7 @@ same-length-2 c = search needs
 
 returns : tie.Need-returns
 returns c =
-    lines-told _ (c .before .before .before .before .before .before .before .before .before .before .before .before .before .before .before .before .before .before .pre .0) _ _ (c .before .before .before .before .before .before .before .tell .ensures) (simp length-take (omega arith)) _ (c .before .told .given .1)
+    lines-told _ (c .before .before .before .before .before .before .before .before .before .before .before .before .before .before .before .before .before .before .pre .0) _ _ (c .before .before .before .before .before .before .before .tell .ensures) (room (slice-aggregate-tell (c .before .before .before .before .before .before .before .before .before)) (slice-relend-prefix-tell (c .before .before .before .before .before .before .before .before .before .before)) (c .before .before .before .before .before .before .before .before .before .before .before .before .before .piece .given) (c .before .before .before .before .before .before .before .before .before .before .before .before .before .before .before .before .before .before .pre .1)) _ (c .before .told .given .1)
 
 same-length-3 : tie.Need-same-length-3
 same-length-3 c = search needs
@@ -46,7 +51,7 @@ same-length-4 c = search needs
 
 returns-2 : tie.Need-returns-2
 returns-2 c =
-    never-refused _ (c .before .before .before .before .before .before .before .before .before .before .before .before .before .before .before .before .before .pre .0) _ _ (c .before .before .before .before .before .before .tell .ensures) (simp length-take (omega arith)) _ _ (c .enum-told .given .1)
+    never-refused _ (c .before .before .before .before .before .before .before .before .before .before .before .before .before .before .before .before .before .pre .0) _ _ (c .before .before .before .before .before .before .tell .ensures) (room (slice-aggregate-tell (c .before .before .before .before .before .before .before .before)) (slice-relend-prefix-tell (c .before .before .before .before .before .before .before .before .before)) (c .before .before .before .before .before .before .before .before .before .before .before .before .piece .given) (c .before .before .before .before .before .before .before .before .before .before .before .before .before .before .before .before .before .pre .1)) _ _ (c .enum-told .given .1)
 
 pub told-piece-spec : {M : Type 1} → statement M
 told-piece-spec =
