@@ -13,7 +13,6 @@ use Rattle.runs.proofs.Written.{unchanged, apart, done-or-refused, done-clear, 
 use Rattle.record.specs.declared.types.Record.{Record}
 use Rattle.polarity.specs.Word.{wordOf}
 use Rattle.ltc.specs.Calls as ltc
-use Rattle.vitc.specs.Line.{lineOf}
 use Rattle.vitc.specs.Calls as vitc
 use Rattle.atc.specs.declared.types.Contents.{Contents}
 use Rattle.atc.specs.Calls as atc
@@ -41,7 +40,7 @@ linear-unchanged mode r start run = unchanged Refused Done apart (ltc.writtenRow
 
 pub interval-unchanged : Unchanged interval
 unfolding vitc.writtenOf
-interval-unchanged mode r start run = unchanged Refused Done apart (vitc.writtenRows mode r start run) start (lineOf mode r) run
+interval-unchanged mode r start run = unchanged Refused Done apart (vitc.writtenRows mode r start run) start (vitc.lineOf mode r) run
 
 pub ancillary-unchanged : Unchanged ancillary
 unfolding atc.writtenOf atc.runOf

@@ -25,7 +25,7 @@ use Rattle.modes.proofs.Clocked.{number-at-rate, address-at-rate}
 use Rattle.trips.proofs.Numbers.{one-to-one}
 use Rattle.polarity.specs.Word.{wordOf}
 use Rattle.trips.proofs.Words as ltc
-use Rattle.vitc.specs.Line.{lineOf}
+use Rattle.vitc.specs.Calls.{lineOf}
 use Rattle.trips.proofs.Lines as vitc
 use Rattle.atc.specs.Calls.{packetOf}
 use Rattle.trips.proofs.Packets as atc

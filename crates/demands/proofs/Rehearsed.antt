@@ -12,12 +12,13 @@ use Rattle.modes.specs.Modes.{unknown, rateAt}
 use Rattle.modes.specs.Calls.{numberIn, addressIn, fieldsIn, spanIn}
 use Rattle.polarity.specs.Word.{syncWord, oddZeros, wordOf}
 use Rattle.ltc.specs.Calls as ltc
-use Rattle.vitc.specs.Line.{each, onesFrom, groups, payload, crcOf, lineWith, lineOf}
+use Rattle.interval.specs.Line.{each, onesFrom, groups, payload, crcOf, lineWith}
+use Rattle.vitc.specs.Calls as vitc
 use Rattle.words.specs.Words.{dataWord, dataWords, sum9}
 use Rattle.packets.specs.Packet.{header, checksumOf, frontOf, packetWith}
 use Rattle.atc.specs.Calls as atc
 use Rattle.demands.specs.Bars.{bars, onesAmong, packed, Rehearsed}
 
 pub rehearsed : Rehearsed bars
-unfolding bars onesAmong packed numberIn addressIn fieldsIn spanIn numberOf addressOf fieldsOf spanOf value toBits howMany placed join layout fieldsOfRecord infoOf syncWord oddZeros wordOf each onesFrom groups payload crcOf lineWith lineOf dataWords dataWord sum9 header checksumOf frontOf packetWith countOf distanceOf ltc.runOf ltc.writtenRows atc.runOf unknown rateAt
+unfolding bars onesAmong packed numberIn addressIn fieldsIn spanIn numberOf addressOf fieldsOf spanOf value toBits howMany placed join layout fieldsOfRecord infoOf syncWord oddZeros wordOf each onesFrom groups payload crcOf lineWith vitc.lineOf dataWords dataWord sum9 header checksumOf frontOf packetWith countOf distanceOf ltc.runOf ltc.writtenRows atc.runOf unknown rateAt
 rehearsed = refl

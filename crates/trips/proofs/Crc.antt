@@ -12,10 +12,10 @@ use lib.Seq.{drop-cons, drop-drop, ext-getD}
 use borrow.Author.Tests.{eq-eqb, eqb-true, not-false}
 use Rattle.bits.specs.Bits.{AllBits}
 use Rattle.bits.proofs.Count.{one-counts}
-use Rattle.vitc.specs.Line.{onesFrom, onesAt, oddAt, wrongCrc, crcOf}
-use Rattle.vitc.proofs.Lists.{getD-each, within-at, none-of, none-below}
-use Rattle.vitc.proofs.Stride.{ones-append, skip, stride}
-use Rattle.vitc.proofs.Shape.{length-crc, clean-crc}
+use Rattle.interval.specs.Line.{onesFrom, onesAt, oddAt, wrongCrc, crcOf}
+use Rattle.interval.proofs.Lists.{getD-each, within-at, none-of, none-below}
+use Rattle.interval.proofs.Stride.{ones-append, skip, stride}
+use Rattle.interval.proofs.Shape.{length-crc, clean-crc}
 
 module _ (front : List ℕ) (long : length front ≡ 82) where
   -- of each remainder exactly one place is a CRC bit's

@@ -23,9 +23,9 @@ use Rattle.modes.specs.Modes.{rateAt, withMode}
 use Rattle.modes.specs.Calls.{recordIn, informationIn, bitsRefusalsIn, writeRefusalsIn, packedIn, unpackedIn}
 use Rattle.modes.proofs.Told.{packed-is}
 use Rattle.trips.proofs.ByMode.{one-to-one as bits-one-to-one}
-use Rattle.vitc.specs.Line.{infoIn, lineWith, lineOf}
-use Rattle.vitc.specs.Calls.{readRefusals, readOf, writtenRows, writtenOf, runOf}
-use Rattle.vitc.proofs.Shape.{length-line}
+use Rattle.interval.specs.Line.{infoIn, lineWith}
+use Rattle.interval.proofs.Shape.{length-line}
+use Rattle.vitc.specs.Calls.{readRefusals, readOf, lineOf, writtenRows, writtenOf, runOf}
 use Rattle.trips.proofs.Whole.{Sound, info-below, line-one-to-one}
 
 module _ (mode : ℕ) (r : Record) (line : List ℕ) where

@@ -14,9 +14,9 @@ use Rattle.bits.specs.Bits.{toBits}
 use Rattle.bits.proofs.Bit.{length-toBits}
 use Rattle.bits.proofs.Inverse.{value-toBits, low-bits}
 use Rattle.bits.proofs.Joined.{toBits-append}
-use Rattle.vitc.specs.Line.{placeOf, informationOf, infoIn, wrongAt, wrongPair, groups, payload, crcOf, lineWith}
-use Rattle.vitc.proofs.Lists.{length-each, getD-each, none-below}
-use Rattle.vitc.proofs.Shape.{length-groups}
+use Rattle.interval.specs.Line.{placeOf, informationOf, infoIn, wrongAt, wrongPair, groups, payload, crcOf, lineWith}
+use Rattle.interval.proofs.Lists.{length-each, getD-each, none-below}
+use Rattle.interval.proofs.Shape.{length-groups}
 
 -- eight bits and the rest
 by-eight : (more n : ℕ) → toBits (8 + more) n ≡ toBits 8 n ++ toBits more (n / 256)

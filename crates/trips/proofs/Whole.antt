@@ -14,9 +14,9 @@ use Rattle.refusals.proofs.Answered.{neither}
 use Rattle.bits.specs.Bits.{toBits, AllBits}
 use Rattle.bits.proofs.Bit.{within-drop}
 use Rattle.bits.proofs.Inverse.{toBits-value, value-below}
-use Rattle.vitc.specs.Line.{placeOf, informationOf, infoIn, wrongAt, wrongPair, wrongCrc, payload, crcOf, lineWith}
-use Rattle.vitc.proofs.Lists.{length-each, getD-each, within-each, within-at, none-of}
-use Rattle.vitc.proofs.Shape.{length-payload, length-line, clean-line}
+use Rattle.interval.specs.Line.{placeOf, informationOf, infoIn, wrongAt, wrongPair, wrongCrc, payload, crcOf, lineWith}
+use Rattle.interval.proofs.Lists.{length-each, getD-each, within-each, within-at, none-of}
+use Rattle.interval.proofs.Shape.{length-payload, length-line, clean-line}
 use Rattle.trips.proofs.Crc.{crc-right, crc-only}
 use Rattle.trips.proofs.Standing.{bit-stands, pair-stands, pairs-right, info-stands}
 

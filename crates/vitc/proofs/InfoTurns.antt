@@ -7,9 +7,9 @@ use mathlib.Core.List.{List}
 use lib.ListN.{length, getD}
 use Rattle.runs.specs.Loops.{Gathering}
 use Rattle.runs.proofs.Turns.{gather-begins, gather-turns, gather-room, gather-ends}
-use Rattle.vitc.specs.Line.{placeOf, informationOf, infoIn}
-use Rattle.vitc.specs.Loops.{BitRun}
-use Rattle.vitc.proofs.Lists.{length-each, getD-each, within-at}
+use Rattle.interval.specs.Line.{placeOf, informationOf, infoIn}
+use Rattle.interval.proofs.Lists.{length-each, getD-each, within-at}
+use Rattle.vitc.specs.Asked.{BitRun}
 
 module _ (line : List ℕ) where
   pub begun : Gathering (informationOf line) 0 64

@@ -1,50 +1,46 @@
--- What each test of a read leads to: the row of the list that applies, or what the record answers.
+-- What each answer of a read leads to once the form is judged: the form is refused, or the record answers.
 -- Assumes nothing.
 use mathlib.Core.Path.{_≡_, sym, _∙_}
 use Prim.Native.Nat.{ℕ}
-use mathlib.Core.Bool.{Bool, true, false}
+use mathlib.Core.Bool.{false}
 use mathlib.Core.List.{List}
+use lib.Dec.{eqb}
 use lib.ListN.{length}
-use borrow.Author.Tests.{eq-eqb, ne-eqb}
-use Rattle.bits.specs.Bits.{someAbove}
+use borrow.Author.Tests.{eqb-true, not-false}
+use Rattle.refusals.specs.Table.{wrong-length, unknown-mode, element-too-high}
+use Rattle.refusals.specs.declared.types.Verdict.{Verdict}
+use Rattle.refusals.specs.declared.types.Verdict.the-variants.{Sound, Refused as Unsound}
+use Rattle.refusals.specs.Answer.{verdictOf}
+use Rattle.refusals.proofs.Answered.{Clear, otherwise-accepted}
+use Rattle.refusals.proofs.ByNumber.{clear-at}
+use Rattle.refusals.proofs.Verdicts.{refused-by, sound-clear}
 use Rattle.record.specs.declared.types.Unpacked.{Unpacked}
 use Rattle.record.specs.declared.types.Unpacked.the-variants.{Refused as Unheld}
 use Rattle.modes.specs.Modes.{unknown}
 use Rattle.modes.specs.Calls.{unpackedIn}
-use Rattle.vitc.specs.Line.{wrongPair, wrongCrc, infoIn}
-use Rattle.vitc.specs.Loops.{BitRun}
+use Rattle.interval.specs.Line.{infoIn}
+use Rattle.interval.specs.Calls.{formRefusals}
+use Rattle.vitc.specs.Asked.{BitRun}
 use Rattle.vitc.specs.Calls.{readOf}
 
-module _ (mode : ℕ) (line : List ℕ) where
-  pub bad-length : (length line ≡ 90 → ⊥) → Unheld 1 ≡ readOf mode line
+module _ (mode : ℕ) (line : List ℕ) (found : Verdict) (judged : found ≡ verdictOf (formRefusals mode line)) where
+  pub refused : (n : ℕ) → found ≡ Unsound n → Unheld n ≡ readOf mode line
   unfolding readOf
-  bad-length e = rw (ne-eqb (length line) 90 e)
+  refused n e = refused-by Unheld _ (formRefusals mode line) found judged n e
 
-  module _ (long : length line ≡ 90) (past : Bool) (asked : past ≡ unknown mode) where
-    pub no-mode : past ≡ true → Unheld 2 ≡ readOf mode line
-    unfolding readOf
-    no-mode e = rw (eq-eqb (length line) 90 long, sym asked ∙ e)
+  module _ (sound : found ≡ Sound) where
+    clear : Clear (formRefusals mode line)
+    clear = sound-clear Unheld (Unheld 0) (formRefusals mode line) found judged sound
 
-    module _ (known : past ≡ false) (high : Bool) (looked : high ≡ someAbove 1 line) where
-      pub too-high : high ≡ true → Unheld 3 ≡ readOf mode line
-      unfolding readOf
-      too-high e = rw (eq-eqb (length line) 90 long, sym asked ∙ known, sym looked ∙ e)
+    pub bit-run : BitRun 90 line
+    bit-run =
+        record {
+          long = eqb-true (length line) 90 (not-false (eqb (length line) 90) (clear-at wrong-length (formRefusals mode line) clear));
+          clean = clear-at element-too-high (formRefusals mode line) clear;
+        }
 
-      pub bit-run : high ≡ false → BitRun 90 line
-      bit-run e = record { long = long; clean = sym looked ∙ e }
-
-      module _ (bits : high ≡ false) (pair : Bool) (paired : pair ≡ wrongPair line) where
-        pub bad-pair : pair ≡ true → Unheld 4 ≡ readOf mode line
-        unfolding readOf
-        bad-pair e = rw (eq-eqb (length line) 90 long, sym asked ∙ known, sym looked ∙ bits, sym paired ∙ e)
-
-        module _ (good : pair ≡ false) (check : Bool) (checked : check ≡ wrongCrc line) where
-          pub bad-check : check ≡ true → Unheld 5 ≡ readOf mode line
-          unfolding readOf
-          bad-check e = rw (eq-eqb (length line) 90 long, sym asked ∙ known, sym looked ∙ bits, sym paired ∙ good, sym checked ∙ e)
-
-          pub by-record : check ≡ false → (info : ℕ) → info ≡ infoIn line → (a : Unpacked) → a ≡ unpackedIn mode info → a ≡ readOf mode line
-          unfolding readOf unpackedIn
-          by-record e info is a told =
-              rw (eq-eqb (length line) 90 long, sym asked ∙ known, sym looked ∙ bits, sym paired ∙ good, sym checked ∙ e)
-              (rw (is, sym asked ∙ known) at told)
+    pub by-record : (info : ℕ) → info ≡ infoIn line → (a : Unpacked) → a ≡ unpackedIn mode info → a ≡ readOf mode line
+    unfolding readOf unpackedIn
+    by-record info is a told =
+        let known : unknown mode ≡ false = clear-at unknown-mode (formRefusals mode line) clear in
+        (rw (is, known) at told) ∙ sym (otherwise-accepted Unheld _ (formRefusals mode line) clear)

@@ -1,6 +1,4 @@
--- Line      the 90 bits of a line: places, pairs, the CRC, and the line that 64 bits make
 -- Calls     what each call answers, refusals in the table's order, and what a write leaves in the run
--- Loops     what holds at each turn of the loops
-pub mod Line
+-- Asked     what `information` asks of a line
 pub mod Calls
-pub mod Loops
+pub mod Asked

@@ -1,9 +1,7 @@
-// The vertical interval line: 90 bits, one to an element, and the record that they hold.
+// The vertical interval line (VITC): 90 bits, one to an element, and the record that they hold.
 //
-// parity     the CRC's eight counts, each as one bit
-// reading    from a line to a record: bits, pairs, CRC, and the 64 bits from their places
+// reading    from a line to a record
 // writing    from a record to a line in the middle of a lent run
-mod parity;
 mod reading;
 mod writing;
 

@@ -4,7 +4,7 @@ use Prim.Native.Nat.{_-_, _^_, _≤_, _<_}
 use native.Mathlib.Omega.{arith}
 use lib.ListN.{getD}
 use Rattle.runs.specs.Loops.{Gathering}
-use Rattle.vitc.specs.Line.{placeOf, informationOf}
+use Rattle.interval.specs.Line.{placeOf, informationOf}
 use Rattle.vitc.proofs.InfoTurns.{begun, room, bit, turned, done}
 use Rattle.vitc.proofs.reading.information.Statement.{statement}
 use Rattle.vitc.proofs.reading.information.Tie as tie

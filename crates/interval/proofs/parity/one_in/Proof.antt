@@ -1,0 +1,14 @@
+-- `interval::parity::one_in` meets its contract: the test is the definition's.
+-- Assumes nothing.
+use borrow.Author.Tests.{eq-eqb, ne-eqb}
+use Rattle.interval.proofs.parity.one_in.Statement.{statement}
+use Rattle.interval.proofs.parity.one_in.Tie as tie
+
+returns : tie.Need-returns
+returns c = simp (eq-eqb _ _ (c .if1 .taken))
+
+returns-2 : tie.Need-returns-2
+returns-2 c = simp (ne-eqb _ _ (c .if1 .left))
+
+pub one-in-spec : {M : Type 1} → statement M
+one-in-spec = tie.close (tie.spec returns returns-2)
