@@ -40,7 +40,7 @@ each-word-as-itself = demand-3
 -- The same of `reader::block`, in blocks cut anywhere, going on after each stop: with as many blocks as bits, each of which may take one, the run
 -- comes to its end, with the answers of single steps, so each word as itself, and the reader is the one that single steps leave. Shut out: a block
 -- step that does all at once and later only nods.
--- (The count of each block is `count-of-steps` in the crate `reader`.)
+-- (The count of each block is `count-of-steps` in the crate `following`.)
 pub each-word-in-blocks :
     (reader : Reader) → Reached reader → unknown (reader .mode) ≡ false → (words : List (CodeWord (reader .mode))) (cuts : List Cut)
     → AllOpen cuts → length (endToEnd words) ≤ length cuts

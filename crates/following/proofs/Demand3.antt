@@ -15,7 +15,7 @@ use Rattle.bits.proofs.Bit.{within-append}
 use Rattle.bits.proofs.Neighbours.{Each}
 use Rattle.modes.specs.Modes.{unknown}
 use Rattle.polarity.specs.Word.{syncWord}
-use Rattle.trips.proofs.Apart.{gaps, NotBoth, apart}
+use Rattle.following.proofs.Apart.{gaps, NotBoth, apart}
 use Rattle.register.specs.declared.types.Reader.{Reader}
 use Rattle.reader.specs.declared.types.Heard.{Heard}
 use Rattle.following.specs.Reach.{answers, Reached}

@@ -12,7 +12,7 @@ use Rattle.bits.specs.Bits.{someAbove}
 use Rattle.bits.proofs.Bit.{head-within, tail-within}
 use Rattle.bits.proofs.Neighbours.{Each}
 use Rattle.runs.proofs.Same.{both-true}
-use Rattle.trips.proofs.Apart.{gaps, NotBoth}
+use Rattle.following.proofs.Apart.{gaps, NotBoth}
 use Rattle.polarity.specs.Word.{syncWord}
 use Rattle.register.specs.Held.{latest}
 use Rattle.following.specs.Following.{settled}

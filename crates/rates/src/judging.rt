@@ -12,7 +12,7 @@ use crate::types::Flag;
 use crate::types::Rate;
 use refusals::Verdict;
 
-pub fn is_outside(rate: Rate, a: Address) -> bool
+fn is_outside(rate: Rate, a: Address) -> bool
     ensures { λ r. ⌜ r ≡ outside (framesInSecond rate) a ⌝ }
 {
     let fps = frames_in_second(rate);
@@ -20,7 +20,7 @@ pub fn is_outside(rate: Rate, a: Address) -> bool
     (23 < a.hours) | ((59 < a.minutes) | ((59 < a.seconds) | (fps <= frames)))
 }
 
-pub fn is_skipped(a: Address) -> bool
+fn is_skipped(a: Address) -> bool
     ensures { λ r. ⌜ r ≡ skipped a ⌝ }
 {
     let frames = a.frames.0;
@@ -47,7 +47,7 @@ fn verdict(rate: Rate, drop: bool, out: bool, skip: bool, unused: bool) -> Verdi
     Verdict::Sound
 }
 
-// `bad` and `unused` are no concern of the clock's: what else makes 8 apply, and 10.
+// `bad` and `unused` are no concern of the address's: what else makes 8 apply, and 10.
 pub fn judge(rate: Rate, drop: Flag, a: Address, bad: bool, unused: bool) -> Verdict
     ensures { λ r. ⌜ r ≡ verdictOf (refusalsBesides bad unused rate drop a) ⌝ }
 {

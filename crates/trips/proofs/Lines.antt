@@ -26,7 +26,7 @@ use Rattle.trips.proofs.ByMode.{one-to-one as bits-one-to-one}
 use Rattle.interval.specs.Line.{infoIn, lineWith}
 use Rattle.interval.proofs.Shape.{length-line}
 use Rattle.vitc.specs.Calls.{readRefusals, readOf, lineOf, writtenRows, writtenOf, runOf}
-use Rattle.trips.proofs.Whole.{Sound, info-below, line-one-to-one}
+use Rattle.trips.proofs.WholeLine.{Sound, info-below, line-one-to-one}
 
 module _ (mode : ℕ) (r : Record) (line : List ℕ) where
   -- a line reads as a record exactly where it is sound and its 64 bits hold the record

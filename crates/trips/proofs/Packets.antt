@@ -33,7 +33,7 @@ use Rattle.atc.specs.declared.types.Contents.{Contents}
 use Rattle.atc.specs.declared.types.Packet.{Packet}
 use Rattle.atc.specs.declared.types.Packet.the-variants.{Holds, Refused as Unread}
 use Rattle.atc.specs.Calls.{readRefusals, contentsWith, readOf, packetOf, writtenRows, writtenOf, runOf}
-use Rattle.trips.proofs.Packet.{form-clear, info-again, type-again, second-again, packet-again, info-below}
+use Rattle.trips.proofs.WholePacket.{form-clear, info-again, type-again, second-again, packet-again, info-below}
 use Rattle.atc.proofs.Answers.{size, past-the-type}
 
 -- what a packet can hold: a record that its own list clears, and a type up to 2

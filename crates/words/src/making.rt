@@ -15,7 +15,7 @@ pub fn with_opposite(nine: u16) -> u16
 }
 
 // Four information bits and one bit of the type or the second byte, with b8 and b9.
-pub fn data_word(nibble: u8, bit: u8) -> u16
+fn data_word(nibble: u8, bit: u8) -> u16
     ensures { λ r. ⌜ r ≡ dataWord nibble bit ⌝ }
 {
     let byte = 8 * bit as u16 + 16 * nibble as u16;

@@ -14,11 +14,11 @@ use Rattle.bits.proofs.Bit.{head-within, tail-within, length-toBits}
 use Rattle.bits.proofs.Neighbours.{Each, Digit, Small, bit-at, not-both}
 use Rattle.record.specs.declared.types.Record.{Record}
 use Rattle.record.specs.declared.types.Unpacked.the-variants.{Holds}
-use Rattle.trips.proofs.Digits.{digits, small-digits}
+use Rattle.following.proofs.Digits.{digits, small-digits}
 use Rattle.modes.specs.Modes.{rateAt}
 use Rattle.polarity.specs.Word.{syncWord, wordWith, infoIn}
 use Rattle.ltc.specs.Calls.{readRefusals, readOf}
 use Rattle.trips.proofs.Words.{read-clear, whole}
 
 -- the lower of a digit's top two bits
 abbrev top : Digit → ℕ
