@@ -1,9 +1,13 @@
 // The elements of a run: BITS and WORDS, `-` for the empty run.
+ghost use lib.ListN.{length};
+ghost use Rattle.answers.specs.Places.{Follows};
 use crate::text::put;
 use crate::text::put_text;
 
 // BITS, one element a character.
-pub fn put_bits(out: &mut [u8], at: usize, run: &[u8]) -> usize {
+pub fn put_bits(out: &mut [u8], at: usize, run: &[u8]) -> usize
+    ensures { λ r. ⌜ Follows at (length (now (out .entry))) r ⌝ }
+{
     if run.len() == 0 {
         return put_text(out, at, b" -");
     }
@@ -22,14 +26,18 @@ fn hex_digit(value: u16) -> u8 {
     b'A' + (digit - 10)
 }
 
-fn put_three_digits(out: &mut [u8], at: usize, word: u16) -> usize {
+fn put_three_digits(out: &mut [u8], at: usize, word: u16) -> usize
+    ensures { λ r. ⌜ Follows at (length (now (out .entry))) r ⌝ }
+{
     let mut next = put(out, at, hex_digit(word / 0x100));
     next = put(out, next, hex_digit(word / 0x10));
     put(out, next, hex_digit(word))
 }
 
 // "at least three digits", and a fourth where the word needs it.
-fn put_word(out: &mut [u8], at: usize, word: u16) -> usize {
+fn put_word(out: &mut [u8], at: usize, word: u16) -> usize
+    ensures { λ r. ⌜ Follows at (length (now (out .entry))) r ⌝ }
+{
     if 0xfff < word {
         let next = put(out, at, hex_digit(word / 0x1000));
         return put_three_digits(out, next, word);
@@ -45,7 +53,9 @@ fn before_word(i: usize) -> u8 {
     b','
 }
 
-pub fn put_words(out: &mut [u8], at: usize, run: &[u16]) -> usize {
+pub fn put_words(out: &mut [u8], at: usize, run: &[u16]) -> usize
+    ensures { λ r. ⌜ Follows at (length (now (out .entry))) r ⌝ }
+{
     if run.len() == 0 {
         return put_text(out, at, b" -");
     }

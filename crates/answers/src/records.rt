@@ -1,15 +1,22 @@
 // Fields that are bytes, an address and a record.
+ghost use Prim.Native.Nat.{_≤_};
+ghost use lib.ListN.{length};
+ghost use Rattle.answers.specs.Places.{Follows};
 use crate::numbers::put_number;
 use crate::text::put_text;
 use rates::Address;
 use rates::Flag;
 use record::Record;
 
-pub fn put_byte(out: &mut [u8], at: usize, byte: u8) -> usize {
+pub fn put_byte(out: &mut [u8], at: usize, byte: u8) -> usize
+    ensures { λ r. ⌜ Follows at (length (now (out .entry))) r ⌝ }
+{
     put_number(out, at, byte as u64)
 }
 
-fn put_bytes(out: &mut [u8], at: usize, bytes: &[u8]) -> usize {
+fn put_bytes(out: &mut [u8], at: usize, bytes: &[u8]) -> usize
+    ensures { λ r. ⌜ Follows at (length (now (out .entry))) r ⌝ }
+{
     let mut next = at;
     for i in 0..bytes.len() {
         next = put_byte(out, next, bytes[i]);
@@ -17,7 +24,9 @@ fn put_bytes(out: &mut [u8], at: usize, bytes: &[u8]) -> usize {
     next
 }
 
-pub fn put_address(out: &mut [u8], address: Address) -> usize {
+pub fn put_address(out: &mut [u8], address: Address) -> usize
+    ensures { λ r. ⌜ r ≤ length (now (out .entry)) ⌝ }
+{
     let next = put_text(out, 0, b"address");
     let frames = address.frames;
     let fields = [address.hours, address.minutes, address.seconds, frames.0];
@@ -65,7 +74,9 @@ fn fields_of(r: Record) -> [u8; 18] {
     ]
 }
 
-pub fn put_record(out: &mut [u8], record: Record) -> usize {
+pub fn put_record(out: &mut [u8], record: Record) -> usize
+    ensures { λ r. ⌜ r ≤ length (now (out .entry)) ⌝ }
+{
     let next = put_text(out, 0, b"record");
     let fields = fields_of(record);
     put_bytes(out, next, &fields)

@@ -1,14 +1,15 @@
--- `answers::elements::put_bits` is safe and ends. The measure is what is left of the run.
+-- `answers::elements::put_bits` meets its contract. The measure is what is left of the run.
 -- Assumes nothing.
 use mathlib.Core.Path.{_≡_}
 use Prim.Native.Nat.{_-_, _≤_}
 use lib.ListN.{length}
+use Rattle.answers.specs.Places.{Follows}
 use borrow.Author.Needs.{needs}
 use Rattle.answers.proofs.elements.put_bits.Statement.{statement}
 use Rattle.answers.proofs.elements.put_bits.Tie as tie
 
 abbrev Inv-loop : tie.InvT-loop
-Inv-loop out₀ at run next₀ i₀ i-end out next i = (i ≤ length run) × (length out ≡ length out₀)
+Inv-loop out₀ at run next₀ i₀ i-end out next i = (i ≤ length run) × ((length out ≡ length out₀) × Follows at (length out₀) next)
 
 abbrev μ-loop : tie.MeasureT-loop
 μ-loop out₀ at run next₀ i₀ i-end out next i = length run - i

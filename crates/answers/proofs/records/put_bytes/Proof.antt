@@ -1,14 +1,15 @@
--- `answers::records::put_bytes` is safe and ends. The measure is how many bytes are left.
+-- `answers::records::put_bytes` meets its contract. The measure is how many bytes are left.
 -- Assumes nothing.
 use mathlib.Core.Path.{_≡_}
 use Prim.Native.Nat.{_-_, _≤_}
 use lib.ListN.{length}
+use Rattle.answers.specs.Places.{Follows}
 use borrow.Author.Needs.{needs}
 use Rattle.answers.proofs.records.put_bytes.Statement.{statement}
 use Rattle.answers.proofs.records.put_bytes.Tie as tie
 
 abbrev Inv-loop : tie.InvT-loop
-Inv-loop out₀ at bytes next₀ i₀ i-end out next i = (i ≤ length bytes) × (length out ≡ length out₀)
+Inv-loop out₀ at bytes next₀ i₀ i-end out next i = (i ≤ length bytes) × ((length out ≡ length out₀) × Follows at (length out₀) next)
 
 abbrev μ-loop : tie.MeasureT-loop
 μ-loop out₀ at bytes next₀ i₀ i-end out next i = length bytes - i

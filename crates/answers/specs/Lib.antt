@@ -1,0 +1,2 @@
+-- Where answers go.
+pub mod Places
