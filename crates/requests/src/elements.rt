@@ -1,5 +1,5 @@
 // Fields that hold the elements of a run: BITS and WORDS, `-` for the empty run.
-ghost use Prim.Native.Nat.{_≤_};
+ghost use Prim.Native.Nat.{_≤_, _<_};
 ghost use lib.ListN.{length};
 use crate::fields::NOWHERE;
 use crate::fields::digit_of;
@@ -24,7 +24,9 @@ fn found(length: usize, places: usize, next: usize) -> Run
 }
 
 // BITS, "one element a character": how many there are, or NOWHERE where the text is no BITS or has more than the run.
-pub fn bits_in(text: &[u8], run: &mut [u8]) -> usize {
+pub fn bits_in(text: &[u8], run: &mut [u8]) -> usize
+    ensures { λ r. ⌜ (r < 18446744073709551615 → r ≤ length (now (run .entry))) ⌝ }
+{
     if is_same(text, b"-") {
         return 0;
     }

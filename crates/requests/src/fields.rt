@@ -3,8 +3,12 @@
 // A cursor is where the next field starts; past the last field it is one past the line's end. Where a field is missing, or is
 // not what it must be, the cursor past it is NOWHERE: no field is found there, and it is not the end. So a line is a request if
 // its last cursor is the end.
-ghost use Prim.Native.Nat.{_≤_};
+ghost use mathlib.Core.Path.{_≡_};
+ghost use mathlib.Core.Bool.{true};
+ghost use Prim.Native.Nat.{_+_, _≤_, _<_};
+ghost use lib.Dec.{eqb};
 ghost use lib.ListN.{length};
+ghost use Rattle.requests.specs.Parsing.{valueOf, plainLimit, limitOf};
 use crate::types::Field;
 use crate::types::MOST_NUMBERS;
 use crate::types::Numbers;
@@ -47,14 +51,18 @@ pub fn field_at(line: &[u8], cursor: usize) -> Field
     part_at(line, cursor, b' ')
 }
 
-pub fn is_end(line: &[u8], cursor: usize) -> bool {
+pub fn is_end(line: &[u8], cursor: usize) -> bool
+    ensures { λ r. ⌜ r ≡ eqb cursor (length (now (line .entry)) + 1) ⌝ }
+{
     if line.len() < cursor {
         return cursor - line.len() == 1;
     }
     false
 }
 
-pub fn is_same(text: &[u8], word: &[u8]) -> bool {
+pub fn is_same(text: &[u8], word: &[u8]) -> bool
+    ensures { λ r. ⌜ (r ≡ true → now (text .entry) ≡ now (word .entry)) ⌝ }
+{
     if text.len() != word.len() {
         return false;
     }
@@ -67,7 +75,9 @@ pub fn is_same(text: &[u8], word: &[u8]) -> bool {
 }
 
 // What a character is worth as a digit, and 16 where it is none.
-pub fn digit_of(character: u8) -> u64 {
+pub fn digit_of(character: u8) -> u64
+    ensures { λ r. ⌜ r ≤ 16 ⌝ }
+{
     match character {
         b'0'..=b'9' => (character - b'0') as u64,
         b'A'..=b'F' => (character - b'A' + 10) as u64,
@@ -76,7 +86,9 @@ pub fn digit_of(character: u8) -> u64 {
 }
 
 // A value with one digit more, where that is a digit of the base and the value stays within `most`.
-fn appended(value: u64, digit: u64, base: u64, most: u64) -> Parsed {
+fn appended(value: u64, digit: u64, base: u64, most: u64) -> Parsed
+    ensures { λ r. ⌜ valueOf r ≤ most ⌝ }
+{
     if base <= digit {
         return Parsed::Unsound;
     }
@@ -89,7 +101,9 @@ fn appended(value: u64, digit: u64, base: u64, most: u64) -> Parsed {
     Parsed::Value(base * value + digit)
 }
 
-pub fn number_in(text: &[u8], base: u64, most: u64) -> Parsed {
+pub fn number_in(text: &[u8], base: u64, most: u64) -> Parsed
+    ensures { λ r. ⌜ valueOf r ≤ most ⌝ }
+{
     if text.len() == 0 {
         return Parsed::Unsound;
     }
@@ -105,7 +119,9 @@ pub fn number_in(text: &[u8], base: u64, most: u64) -> Parsed {
 
 // A request's form has a letter for each of its numbers: b for a byte, c for COUNT, f for a flag, k for KIND, l for LENGTH, n for N, and
 // s for START and LIMIT.
-fn limit_of(letter: u8) -> u64 {
+fn limit_of(letter: u8) -> u64
+    ensures { λ r. ⌜ r ≡ plainLimit letter ⌝ }
+{
     match letter {
         b'f' => 1,
         b'k' => 3,
@@ -117,7 +133,9 @@ fn limit_of(letter: u8) -> u64 {
 }
 
 // "COUNT is any signed 32-bit number": it is kept as how far it is above the lowest of them.
-fn count_in(text: &[u8]) -> Parsed {
+fn count_in(text: &[u8]) -> Parsed
+    ensures { λ r. ⌜ valueOf r ≤ 4294967295 ⌝ }
+{
     if 0 < text.len() {
         if text[0] == b'-' {
             let back = number_in(&text[1..], 10, 0x8000_0000);
@@ -134,14 +152,18 @@ fn count_in(text: &[u8]) -> Parsed {
     }
 }
 
-fn value_in(text: &[u8], letter: u8) -> Parsed {
+fn value_in(text: &[u8], letter: u8) -> Parsed
+    ensures { λ r. ⌜ valueOf r ≤ limitOf letter ⌝ }
+{
     if letter == b'c' {
         return count_in(text);
     }
     number_in(text, 10, limit_of(letter))
 }
 
-pub fn number_at(line: &[u8], cursor: usize, letter: u8) -> Taken {
+pub fn number_at(line: &[u8], cursor: usize, letter: u8) -> Taken
+    ensures { λ r. ⌜ r .value ≤ limitOf letter ⌝ }
+{
     let field = field_at(line, cursor);
     let start = field.start;
     let end = field.end;
@@ -159,7 +181,9 @@ pub fn number_at(line: &[u8], cursor: usize, letter: u8) -> Taken {
 }
 
 // The numbers of the next fields, and the cursor past them.
-fn numbers_at(line: &[u8], cursor: usize, form: &[u8], numbers: &mut Numbers) -> usize {
+fn numbers_at(line: &[u8], cursor: usize, form: &[u8], numbers: &mut Numbers) -> usize
+    ensures { λ r. ⌜ (r < 18446744073709551615 → length (now (form .entry)) ≤ 23) ⌝ }
+{
     let mut at = cursor;
     for i in 0..form.len() {
         if MOST_NUMBERS <= i {
@@ -173,6 +197,8 @@ fn numbers_at(line: &[u8], cursor: usize, form: &[u8], numbers: &mut Numbers) ->
 }
 
 // The same, and whether they are the rest of the line.
-pub fn take_numbers(line: &[u8], cursor: usize, form: &[u8], numbers: &mut Numbers) -> bool {
+pub fn take_numbers(line: &[u8], cursor: usize, form: &[u8], numbers: &mut Numbers) -> bool
+    ensures { λ r. ⌜ (r ≡ true → length (now (form .entry)) ≤ 23) ⌝ }
+{
     is_end(line, numbers_at(line, cursor, form, numbers))
 }

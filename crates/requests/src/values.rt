@@ -1,4 +1,10 @@
 // From the numbers of a request to the values that the calls take: each number was found within the limit of its field.
+ghost use mathlib.Core.Path.{_≡_};
+ghost use Prim.Native.Nat.{_%_, _<_, _^_};
+ghost use lib.IntN.{subℕ};
+ghost use Rattle.rates.specs.Face.{showing};
+ghost use Rattle.layout.specs.Flags.{flagOf};
+ghost use Rattle.requests.specs.Parsing.{addressAt};
 use crate::types::Numbers;
 use clock::DayFrame;
 use rates::Address;
@@ -8,23 +14,28 @@ use record::Flags;
 use record::Groups;
 use record::Record;
 
-pub fn byte(number: u64) -> u8 {
+pub fn byte(number: u64) -> u8
+    ensures { λ r. ⌜ r ≡ number % 256 ⌝ }
+{
     (number % 256) as u8
 }
 
-pub fn flag(number: u64) -> Flag {
-    if number == 0 {
-        return Flag::No;
-    }
-    Flag::Yes
+pub fn flag(number: u64) -> Flag
+    ensures { λ r. ⌜ r ≡ flagOf number ⌝ }
+{
+    layout::flag(number)
 }
 
-pub fn day_frame(number: u64) -> DayFrame {
+pub fn day_frame(number: u64) -> DayFrame
+    ensures { λ r. ⌜ r .0 ≡ number % 4294967296 ⌝ }
+{
     DayFrame((number % 0x1_0000_0000) as u32)
 }
 
 // A number below 0 is the bits of one less than its size, turned over.
-pub fn count(above_lowest: u64) -> i32 {
+pub fn count(above_lowest: u64) -> i32
+    ensures { λ r. ⌜ («above_lowest» < 2 ^ 32 → r ≡ subℕ «above_lowest» (2 ^ 31)) ⌝ }
+{
     if above_lowest < 0x8000_0000 {
         let less = 0x7fff_ffff - above_lowest;
         return !(less as i32);
@@ -33,7 +44,9 @@ pub fn count(above_lowest: u64) -> i32 {
 }
 
 // `H M S F`.
-pub fn address_in(hours: u64, minutes: u64, seconds: u64, frames: u64) -> Address {
+pub fn address_in(hours: u64, minutes: u64, seconds: u64, frames: u64) -> Address
+    ensures { λ r. ⌜ r ≡ showing (hours % 256) (minutes % 256) (seconds % 256) (frames % 256) ⌝ }
+{
     Address {
         hours: byte(hours),
         minutes: byte(minutes),
@@ -67,7 +80,9 @@ fn groups_in(n: &Numbers) -> Groups {
 }
 
 // RECORD, from the fourth number of a write on.
-pub fn record_in(n: &Numbers) -> Record {
+pub fn record_in(n: &Numbers) -> Record
+    ensures { λ r. ⌜ r .address ≡ addressAt 3 (now (n .entry)) ⌝ }
+{
     Record {
         address: address_in(n[3], n[4], n[5], n[6]),
         flags: flags_in(n),

@@ -1,7 +1,8 @@
--- `requests::elements::bits_in` is safe and ends. The measure is what is left of the text.
+-- `requests::elements::bits_in` meets its contract. The measure is what is left of the text.
 -- Assumes nothing.
 use mathlib.Core.Path.{_≡_}
 use Prim.Native.Nat.{_-_, _≤_}
+use native.Mathlib.Omega.{arith}
 use lib.ListN.{length}
 use borrow.Author.Needs.{needs}
 use Rattle.requests.proofs.elements.bits_in.Statement.{statement}
@@ -20,13 +21,13 @@ is-same-requires : tie.Need-is-same-requires Inv-loop μ-loop
 is-same-requires c κs = search needs
 
 returns : tie.Need-returns Inv-loop μ-loop
-returns c = search needs
+returns c = λ h. omega arith
 
 returns-2 : tie.Need-returns-2 Inv-loop μ-loop
-returns-2 c = search needs
+returns-2 c = λ h. omega arith
 
 returns-3 : tie.Need-returns-3 Inv-loop μ-loop
-returns-3 c = search needs
+returns-3 c = λ h. omega arith
 
 loop-holds : tie.Need-loop-holds Inv-loop μ-loop
 loop-holds c = search needs
@@ -41,7 +42,7 @@ same-length : tie.Need-same-length Inv-loop μ-loop
 same-length c = search needs
 
 returns-4 : tie.Need-returns-4 Inv-loop μ-loop
-returns-4 c = search needs
+returns-4 c = λ h. omega arith
 
 cast-run : tie.Need-cast-run Inv-loop μ-loop
 cast-run c = search needs
@@ -62,7 +63,7 @@ same-length-2 : tie.Need-same-length-2 Inv-loop μ-loop
 same-length-2 c = search needs
 
 returns-5 : tie.Need-returns-5 Inv-loop μ-loop
-returns-5 c = search needs
+returns-5 c = λ h. omega arith
 
 pub bits-in-spec : {M : Type 1} → statement M
 bits-in-spec =

@@ -41,7 +41,7 @@ add-t7 : tie.Need-add-t7
 add-t7 c = search sum
 
 returns-4 : tie.Need-returns-4
-returns-4 c = search needs
+returns-4 c = search within
 
 pub appended-spec : {M : Type 1} → statement M
 appended-spec = tie.close (tie.spec returns returns-2 div-if3 returns-3 mul-t6 add-t7 returns-4)

