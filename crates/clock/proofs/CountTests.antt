@@ -1,4 +1,4 @@
--- A count at the rate of its rate: what the test of drop-frame leads to, and how large the place it starts from gets.
+-- A count at a rate: what the test of drop-frame leads to, and how large the place it starts from gets.
 -- Assumes nothing.
 use mathlib.Core.Path.{_≡_, sym}
 use mathlib.Core.Bool.{Bool, true, false}

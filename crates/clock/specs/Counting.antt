@@ -1,5 +1,5 @@
--- Numbers and addresses in closed form. What a reader has to believe is the clock; that these are the
--- clock's is proved, once over the rate and drop, in proofs/.
+-- Numbers and addresses in closed form. What a reader has to believe is the clock that is stepped; that these are
+-- its is proved, once over the rate and drop, in the crate `midnight`.
 -- Assumes nothing.
 use Prim.Native.Nat.{ℕ, _+_, _-_, _*_, _/_, _%_}
 use mathlib.Core.Bool.{Bool, cond}

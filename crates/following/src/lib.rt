@@ -1,9 +1,12 @@
 // What a reader does over many bits: the states that feeding reaches, blocks cut anywhere, and code words end to end. No code.
 //
-// specs/Reach        the states that feeding can bring a fresh reader to
-// specs/Cuts         a run fed in blocks
-// specs/Following    what demand 3 asks
-// proofs/Reached     the check of a state passes exactly for those that feeding reaches
-// proofs/Thirteen    13 is answered exactly for the others
-// proofs/CutAnywhere a run in blocks, cut anywhere, is its single steps
-// proofs/Demand3     each code word is reported, as itself, at its 80th bit
+// specs/Reach          the states that feeding can bring a fresh reader to
+// specs/Counting       the steps in which a bit is taken
+// specs/Cuts           a run fed in blocks
+// specs/Following      what demand 3 asks
+// proofs/Reached       the check of a state passes exactly for those that feeding reaches
+// proofs/Thirteen      13 is answered exactly for the others
+// proofs/CutAnywhere   a run in blocks, cut anywhere, is its single steps
+// proofs/StepsCounted  a block's count is of the steps in which a bit is taken
+// proofs/Demand3       each code word is reported, as itself, at its 80th bit
+// proofs/Impostors     one that never reports, refuses each word or reports one fixed address fails it

@@ -1,4 +1,4 @@
-// The linear reader: the last 80 bits, a step, a block.
+// The linear reader: a step, and a block. What it holds is in the crate `register`.
 //
 // types      what a reader answers
 // stepping   one bit, and a run of bits up to the first answer
