@@ -1,4 +1,6 @@
 // Which request a line is, and its answer.
+ghost use Prim.Native.Nat.{_≤_};
+ghost use lib.ListN.{length};
 use crate::calling::told_for;
 use crate::types::Call;
 use crate::types::Request;
@@ -50,7 +52,9 @@ fn take_fields(call: Call, line: &[u8], cursor: usize, n: &mut Numbers) -> bool 
     }
 }
 
-fn put_told(out: &mut [u8], told: Told) -> usize {
+fn put_told(out: &mut [u8], told: Told) -> usize
+    ensures { λ r. ⌜ r ≤ length (now (out .entry)) ⌝ }
+{
     match told {
         Told::Number(number) => {
             let next = put_text(out, 0, b"number");
@@ -65,7 +69,9 @@ fn put_told(out: &mut [u8], told: Told) -> usize {
     }
 }
 
-fn answer_call(call: Call, line: &[u8], cursor: usize, out: &mut [u8]) -> usize {
+fn answer_call(call: Call, line: &[u8], cursor: usize, out: &mut [u8]) -> usize
+    ensures { λ r. ⌜ r ≤ length (now (out .entry)) ⌝ }
+{
     let mut n = [0u64; MOST_NUMBERS];
     if take_fields(call, line, cursor, &mut n) {
         return put_told(out, told_for(call, &n));
@@ -74,7 +80,9 @@ fn answer_call(call: Call, line: &[u8], cursor: usize, out: &mut [u8]) -> usize 
 }
 
 // How many characters of `out` are the answer, and 0 where the line is none of these requests.
-pub fn answer(line: &[u8], out: &mut [u8]) -> usize {
+pub fn answer(line: &[u8], out: &mut [u8]) -> usize
+    ensures { λ r. ⌜ r ≤ length (now (out .entry)) ⌝ }
+{
     let name = field_at(line, 0);
     let end = name.end;
     let asked = request_named(&line[0..end]);

@@ -1,4 +1,7 @@
 // The calls of the clock by mode, and the constructors of its four kinds.
+ghost use mathlib.Core.Path.{_≡_};
+ghost use mathlib.Core.Bool.{true};
+ghost use Rattle.clock_requests.specs.Telling.{numberTold, spanTold, placeTold, mayTell};
 use crate::types::Call;
 use crate::types::Told;
 use clock::Numbered;
@@ -25,7 +28,9 @@ fn second_address(n: &Numbers) -> Address {
     address_in(n[6], n[7], n[8], n[9])
 }
 
-fn number_for(n: &Numbers) -> Told {
+fn number_for(n: &Numbers) -> Told
+    ensures { λ r. ⌜ numberTold r ≡ true ⌝ }
+{
     let numbered = modes::number_of(byte(n[0]), flag(n[1]), first_address(n));
     match numbered {
         Numbered::Refused(number) => Told::Refused(number),
@@ -33,7 +38,9 @@ fn number_for(n: &Numbers) -> Told {
     }
 }
 
-fn distance_for(n: &Numbers) -> Told {
+fn distance_for(n: &Numbers) -> Told
+    ensures { λ r. ⌜ spanTold r ≡ true ⌝ }
+{
     let span = modes::distance(byte(n[0]), flag(n[1]), first_address(n), second_address(n));
     match span {
         Span::Refused(number) => Told::Refused(number),
@@ -85,14 +92,18 @@ fn kind_fields_for(n: &Numbers) -> Placed {
     }
 }
 
-fn place_told(placed: Placed) -> Told {
+fn place_told(placed: Placed) -> Told
+    ensures { λ r. ⌜ placeTold r ≡ true ⌝ }
+{
     match placed {
         Placed::Refused(number) => Told::Refused(number),
         Placed::At(address) => Told::At(address),
     }
 }
 
-pub fn told_for(call: Call, n: &Numbers) -> Told {
+pub fn told_for(call: Call, n: &Numbers) -> Told
+    ensures { λ r. ⌜ mayTell call r ≡ true ⌝ }
+{
     match call {
         Call::Number => number_for(n),
         Call::Address => place_told(address_for(n)),

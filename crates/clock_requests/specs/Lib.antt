@@ -1,0 +1,2 @@
+-- Telling   what each call may tell
+pub mod Telling
