@@ -1,4 +1,6 @@
 // Which request a line is, and its answer.
+ghost use Prim.Native.Nat.{_≤_};
+ghost use lib.ListN.{length};
 use crate::reading::answer_bits_read;
 use crate::reading::answer_words_read;
 use crate::types::Carrier;
@@ -31,7 +33,9 @@ fn request_named(name: &[u8]) -> Request {
 }
 
 // How many characters of `out` are the answer, and 0 where the line is none of these requests.
-pub fn answer(line: &[u8], out: &mut [u8]) -> usize {
+pub fn answer(line: &[u8], out: &mut [u8]) -> usize
+    ensures { λ r. ⌜ r ≤ length (now (out .entry)) ⌝ }
+{
     let name = field_at(line, 0);
     let end = name.end;
     let cursor = end + 1;

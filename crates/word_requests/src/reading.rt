@@ -1,4 +1,6 @@
 // Reads of linear words, vertical interval lines and packets.
+ghost use Prim.Native.Nat.{_≤_};
+ghost use lib.ListN.{length};
 use crate::types::Carrier;
 use answers::put_byte;
 use answers::put_record;
@@ -19,14 +21,18 @@ fn read_bits(carrier: Carrier, mode: u8, run: &[u8]) -> Unpacked {
     }
 }
 
-fn put_unpacked(out: &mut [u8], unpacked: Unpacked) -> usize {
+fn put_unpacked(out: &mut [u8], unpacked: Unpacked) -> usize
+    ensures { λ r. ⌜ r ≤ length (now (out .entry)) ⌝ }
+{
     match unpacked {
         Unpacked::Refused(number) => put_refused(out, number),
         Unpacked::Holds(record) => put_record(out, record),
     }
 }
 
-fn put_packet(out: &mut [u8], packet: Packet) -> usize {
+fn put_packet(out: &mut [u8], packet: Packet) -> usize
+    ensures { λ r. ⌜ r ≤ length (now (out .entry)) ⌝ }
+{
     match packet {
         Packet::Refused(number) => put_refused(out, number),
         Packet::Holds(contents) => {
@@ -38,7 +44,9 @@ fn put_packet(out: &mut [u8], packet: Packet) -> usize {
     }
 }
 
-pub fn answer_bits_read(carrier: Carrier, line: &[u8], cursor: usize, out: &mut [u8]) -> usize {
+pub fn answer_bits_read(carrier: Carrier, line: &[u8], cursor: usize, out: &mut [u8]) -> usize
+    ensures { λ r. ⌜ r ≤ length (now (out .entry)) ⌝ }
+{
     let mode = number_at(line, cursor, b'b');
     let mut run = [0u8; LONGEST_LINE];
     let taken = bits_at(line, mode.next, &mut run);
@@ -50,7 +58,9 @@ pub fn answer_bits_read(carrier: Carrier, line: &[u8], cursor: usize, out: &mut 
     0
 }
 
-pub fn answer_words_read(line: &[u8], cursor: usize, out: &mut [u8]) -> usize {
+pub fn answer_words_read(line: &[u8], cursor: usize, out: &mut [u8]) -> usize
+    ensures { λ r. ⌜ r ≤ length (now (out .entry)) ⌝ }
+{
     let mode = number_at(line, cursor, b'b');
     // A line of 2,000 characters has fewer words than this.
     let mut run = [0u16; 500];

@@ -1,4 +1,6 @@
 // Writes of linear words, vertical interval lines and packets.
+ghost use Prim.Native.Nat.{_≤_};
+ghost use lib.ListN.{length};
 use crate::types::Carrier;
 use answers::put_bits;
 use answers::put_refused;
@@ -27,7 +29,9 @@ fn write_bits(carrier: Carrier, mode: u8, record: Record, start: usize, run: &mu
     }
 }
 
-fn put_written(out: &mut [u8], refusal: u8) -> usize {
+fn put_written(out: &mut [u8], refusal: u8) -> usize
+    ensures { λ r. ⌜ r ≤ length (now (out .entry)) ⌝ }
+{
     if refusal == 0 {
         return put_text(out, 0, b"wrote");
     }
@@ -35,14 +39,18 @@ fn put_written(out: &mut [u8], refusal: u8) -> usize {
 }
 
 // "RUN is the whole lent run after a write, refused or not".
-fn put_bits_written(carrier: Carrier, n: &Numbers, run: &mut [u8], out: &mut [u8]) -> usize {
+fn put_bits_written(carrier: Carrier, n: &Numbers, run: &mut [u8], out: &mut [u8]) -> usize
+    ensures { λ r. ⌜ r ≤ length (now (out .entry)) ⌝ }
+{
     let start = n[1] as usize;
     let refusal = write_bits(carrier, byte(n[0]), record_in(n), start, run);
     let next = put_written(out, refusal);
     put_bits(out, next, run)
 }
 
-fn put_words_written(n: &Numbers, run: &mut [u16], out: &mut [u8]) -> usize {
+fn put_words_written(n: &Numbers, run: &mut [u16], out: &mut [u8]) -> usize
+    ensures { λ r. ⌜ r ≤ length (now (out .entry)) ⌝ }
+{
     let start = n[1] as usize;
     let record = record_in(n);
     let written = atc::write(byte(n[0]), record, byte(n[21]), byte(n[22]), start, run);
@@ -51,7 +59,9 @@ fn put_words_written(n: &Numbers, run: &mut [u16], out: &mut [u8]) -> usize {
 }
 
 // `MODE START LENGTH RECORD`, which TYPE and SECOND follow in `atc-write`.
-pub fn answer_bits_write(carrier: Carrier, line: &[u8], cursor: usize, out: &mut [u8]) -> usize {
+pub fn answer_bits_write(carrier: Carrier, line: &[u8], cursor: usize, out: &mut [u8]) -> usize
+    ensures { λ r. ⌜ r ≤ length (now (out .entry)) ⌝ }
+{
     let mut n = [0u64; MOST_NUMBERS];
     let mut run = [7u8; 400];
     if take_numbers(line, cursor, b"bslbbbbffffffbbbbbbbb", &mut n) {
@@ -63,7 +73,9 @@ pub fn answer_bits_write(carrier: Carrier, line: &[u8], cursor: usize, out: &mut
     0
 }
 
-pub fn answer_words_write(line: &[u8], cursor: usize, out: &mut [u8]) -> usize {
+pub fn answer_words_write(line: &[u8], cursor: usize, out: &mut [u8]) -> usize
+    ensures { λ r. ⌜ r ≤ length (now (out .entry)) ⌝ }
+{
     let mut n = [0u64; MOST_NUMBERS];
     let mut run = [0x777u16; 400];
     if take_numbers(line, cursor, b"bslbbbbffffffbbbbbbbbbb", &mut n) {
