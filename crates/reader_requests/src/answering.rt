@@ -1,4 +1,6 @@
 // Which request a line is, and its answer.
+ghost use Prim.Native.Nat.{_≤_};
+ghost use lib.ListN.{length};
 use crate::holding::held_at;
 use crate::telling::put_blocked;
 use crate::telling::put_stepped;
@@ -21,7 +23,9 @@ fn request_named(name: &[u8]) -> Request {
     Request::Another
 }
 
-fn answer_step(line: &[u8], cursor: usize, out: &mut [u8]) -> usize {
+fn answer_step(line: &[u8], cursor: usize, out: &mut [u8]) -> usize
+    ensures { λ r. ⌜ r ≤ length (now (out .entry)) ⌝ }
+{
     let mode = number_at(line, cursor, b'b');
     let held = held_at(line, mode.next, byte(mode.value));
     let element = number_at(line, held.next, b'b');
@@ -32,7 +36,9 @@ fn answer_step(line: &[u8], cursor: usize, out: &mut [u8]) -> usize {
     0
 }
 
-fn answer_block(line: &[u8], cursor: usize, out: &mut [u8]) -> usize {
+fn answer_block(line: &[u8], cursor: usize, out: &mut [u8]) -> usize
+    ensures { λ r. ⌜ r ≤ length (now (out .entry)) ⌝ }
+{
     let mode = number_at(line, cursor, b'b');
     let held = held_at(line, mode.next, byte(mode.value));
     let limit = number_at(line, held.next, b's');
@@ -48,7 +54,9 @@ fn answer_block(line: &[u8], cursor: usize, out: &mut [u8]) -> usize {
 }
 
 // How many characters of `out` are the answer, and 0 where the line is none of these requests.
-pub fn answer(line: &[u8], out: &mut [u8]) -> usize {
+pub fn answer(line: &[u8], out: &mut [u8]) -> usize
+    ensures { λ r. ⌜ r ≤ length (now (out .entry)) ⌝ }
+{
     let name = field_at(line, 0);
     let end = name.end;
     let cursor = end + 1;

@@ -1,4 +1,6 @@
 // The reader that HELD describes.
+ghost use mathlib.Core.Path.{_≡_};
+ghost use Prim.Native.Nat.{_<_};
 use crate::types::Held;
 use register::Reader;
 use requests::NOWHERE;
@@ -12,7 +14,9 @@ use requests::part_at;
 
 // The reader with the register that these bits leave, which says that it holds so many of its places. They are fed in mode 2, since the
 // request's may be a mode that takes none.
-fn holding(mode: u8, bits: &[u8], held: u64, next: usize) -> Held {
+fn holding(mode: u8, bits: &[u8], held: u64, next: usize) -> Held
+    ensures { λ r. ⌜ r .reader .mode ≡ mode ⌝ }
+{
     let fed = reader::block(Reader::fresh(2), 80, bits);
     let now = fed.reader;
     let reader = Reader {
@@ -38,7 +42,9 @@ fn count_held(claim: &[u8], fed: usize) -> Parsed {
     number_in(&claim[1..], 10, 255)
 }
 
-fn not_held() -> Held {
+fn not_held() -> Held
+    ensures { λ r. ⌜ r .next ≡ 18446744073709551615 ⌝ }
+{
     Held {
         reader: Reader::fresh(2),
         next: NOWHERE,
@@ -46,7 +52,9 @@ fn not_held() -> Held {
 }
 
 // BITS or `BITS!N`.
-fn fed_in(text: &[u8], mode: u8, next: usize) -> Held {
+fn fed_in(text: &[u8], mode: u8, next: usize) -> Held
+    ensures { λ r. ⌜ (r .next < 18446744073709551615 → r .reader .mode ≡ mode) ⌝ }
+{
     let mut bits = [0u8; 80];
     let end = part_at(text, 0, b'!').end;
     let length = bits_in(&text[0..end], &mut bits);
@@ -61,14 +69,18 @@ fn fed_in(text: &[u8], mode: u8, next: usize) -> Held {
 }
 
 // "`!` for a state that no feeding reaches": here one that holds 81.
-fn held_in(text: &[u8], mode: u8, next: usize) -> Held {
+fn held_in(text: &[u8], mode: u8, next: usize) -> Held
+    ensures { λ r. ⌜ (r .next < 18446744073709551615 → r .reader .mode ≡ mode) ⌝ }
+{
     if is_same(text, b"!") {
         return fed_in(b"-!81", mode, next);
     }
     fed_in(text, mode, next)
 }
 
-pub fn held_at(line: &[u8], cursor: usize, mode: u8) -> Held {
+pub fn held_at(line: &[u8], cursor: usize, mode: u8) -> Held
+    ensures { λ r. ⌜ (r .next < 18446744073709551615 → r .reader .mode ≡ mode) ⌝ }
+{
     let field = field_at(line, cursor);
     let start = field.start;
     let end = field.end;

@@ -1,4 +1,7 @@
 // What was heard, and what is held after it.
+ghost use Prim.Native.Nat.{_≤_};
+ghost use lib.ListN.{length};
+ghost use Rattle.answers.specs.Places.{Follows};
 use answers::put;
 use answers::put_bits;
 use answers::put_digits;
@@ -12,7 +15,9 @@ use reader::Stepped;
 use register::Reader;
 use requests::part_at;
 
-fn put_heard(out: &mut [u8], heard: Heard) -> usize {
+fn put_heard(out: &mut [u8], heard: Heard) -> usize
+    ensures { λ r. ⌜ r ≤ length (now (out .entry)) ⌝ }
+{
     match heard {
         Heard::Nothing => put_text(out, 0, b"nothing"),
         Heard::Accepted(record) => put_record(out, record),
@@ -39,12 +44,14 @@ fn places(low: u64, high: u16) -> [u8; 80] {
 }
 
 // The bits that are held; where a one stands below them, the register from there on, and how many of it are held.
-fn put_held(out: &mut [u8], at: usize, now: Reader) -> usize {
-    let held = now.held as usize;
+fn put_held(out: &mut [u8], at: usize, after: Reader) -> usize
+    ensures { λ r. ⌜ Follows at (length (now (out .entry))) r ⌝ }
+{
+    let held = after.held as usize;
     if 80 < held {
         return put_text(out, at, b" !");
     }
-    let places = places(now.info, now.sync);
+    let places = places(after.info, after.sync);
     let lowest_one = part_at(&places, 0, 1).end;
     let empty = 80 - held;
     if lowest_one < empty {
@@ -55,7 +62,9 @@ fn put_held(out: &mut [u8], at: usize, now: Reader) -> usize {
     put_bits(out, at, &places[empty..80])
 }
 
-pub fn put_stepped(out: &mut [u8], stepped: Stepped) -> usize {
+pub fn put_stepped(out: &mut [u8], stepped: Stepped) -> usize
+    ensures { λ r. ⌜ r ≤ length (now (out .entry)) ⌝ }
+{
     let heard = stepped.heard;
     let now = stepped.reader;
     let after_heard = put_heard(out, heard);
@@ -63,7 +72,9 @@ pub fn put_stepped(out: &mut [u8], stepped: Stepped) -> usize {
 }
 
 // "as for `step`, and then the number of bits taken".
-pub fn put_blocked(out: &mut [u8], blocked: Blocked) -> usize {
+pub fn put_blocked(out: &mut [u8], blocked: Blocked) -> usize
+    ensures { λ r. ⌜ r ≤ length (now (out .entry)) ⌝ }
+{
     let heard = blocked.heard;
     let now = blocked.reader;
     let after_heard = put_heard(out, heard);
