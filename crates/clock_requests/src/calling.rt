@@ -11,13 +11,13 @@ use kinds::Frames24;
 use kinds::Frames25;
 use kinds::Frames30;
 use kinds::Frames30Drop;
+use layout::flag;
 use rates::Address;
 use requests::Numbers;
 use requests::address_in;
 use requests::byte;
 use requests::count;
 use requests::day_frame;
-use requests::flag;
 
 // The address that follows MODE and DROP.
 fn first_address(n: &Numbers) -> Address {

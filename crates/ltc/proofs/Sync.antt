@@ -12,7 +12,6 @@ use Rattle.bits.proofs.Bit.{above-append}
 use Rattle.bits.proofs.Inverse.{toBits-value}
 use Rattle.runs.specs.Run.{same}
 use Rattle.runs.proofs.Same.{not-same}
-use Rattle.record.specs.declared.types.Unpacked.{Unpacked}
 use Rattle.polarity.specs.Word.{syncWord, wordWith, infoIn}
 
 module _ (word : List ℕ) (long : length word ≡ 80) where

@@ -31,5 +31,4 @@ pub use values::address_in;
 pub use values::byte;
 pub use values::count;
 pub use values::day_frame;
-pub use values::flag;
 pub use values::record_in;

@@ -3,12 +3,11 @@ ghost use mathlib.Core.Path.{_≡_};
 ghost use Prim.Native.Nat.{_%_, _<_, _^_};
 ghost use lib.IntN.{subℕ};
 ghost use Rattle.rates.specs.Face.{showing};
-ghost use Rattle.layout.specs.Flags.{flagOf};
 ghost use Rattle.requests.specs.Parsing.{addressAt};
 use crate::types::Numbers;
 use clock::DayFrame;
+use layout::flag;
 use rates::Address;
-use rates::Flag;
 use rates::SecondFrame;
 use record::Flags;
 use record::Groups;
@@ -18,12 +17,6 @@ pub fn byte(number: u64) -> u8
     ensures { λ r. ⌜ r ≡ number % 256 ⌝ }
 {
     (number % 256) as u8
-}
-
-pub fn flag(number: u64) -> Flag
-    ensures { λ r. ⌜ r ≡ flagOf number ⌝ }
-{
-    layout::flag(number)
 }
 
 pub fn day_frame(number: u64) -> DayFrame
