@@ -6,7 +6,8 @@
 // types      how far the reading is
 ghost use mathlib.Core.Path.{_≡_};
 ghost use mathlib.Core.Bool.{true};
-ghost use Prim.Native.Nat.{_<_};
+ghost use Prim.Native.Nat.{_≤_, _<_};
+ghost use lib.ListN.{length};
 
 mod families;
 mod types;
@@ -24,11 +25,13 @@ use types::Progress;
 const ROOM: usize = 2048;
 
 // What came past the end of `line` was not kept: a line so long is no request.
-fn answer_kept(line: &[u8], length: usize, out: &mut [u8]) -> usize {
-    if line.len() < length {
+fn answer_kept(line: &[u8], came: usize, out: &mut [u8]) -> usize
+    ensures { λ r. ⌜ r ≤ length (now (out .entry)) ⌝ }
+{
+    if line.len() < came {
         return put_unknown(out);
     }
-    answer(&line[0..length], out)
+    answer(&line[0..came], out)
 }
 
 // Each answer is written by itself, so that it is there before the next line comes. Whether the output took it.
@@ -36,10 +39,7 @@ fn answer_line(line: &[u8], length: usize) -> bool {
     let mut out = [0u8; ROOM];
     let end = answer_kept(line, length, &mut out);
     let next = put(&mut out, end, b'\n');
-    if next <= ROOM {
-        return io::write_all(STDOUT_FILENO, &out[0..next]);
-    }
-    false
+    io::write_all(STDOUT_FILENO, &out[0..next])
 }
 
 fn take_byte(byte: u8, line: &mut [u8], length: usize) -> Progress {

@@ -1,4 +1,4 @@
--- `rehearsal::families::answer` is safe and ends. The measure is so high that no number of families comes near it.
+-- `rehearsal::families::answer` meets its contract. The measure is so high that no number of families comes near it.
 -- Assumes nothing.
 use mathlib.Core.Path.{_≡_}
 use Prim.Native.Nat.{_-_}
