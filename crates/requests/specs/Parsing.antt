@@ -1,6 +1,6 @@
 -- What is told of a number, and the most that a field may hold.
 -- Assumes nothing.
-use Prim.Native.Nat.{ℕ, _+_, _%_}
+use Prim.Native.Nat.{ℕ, _+_, _%_, _≤_, _<_}
 use mathlib.Core.Bool.{cond}
 use mathlib.Core.List.{List}
 use lib.Dec.{eqb}
@@ -27,6 +27,10 @@ plainLimit letter =
 -- the same with c, for a count that is kept as how far it is above the lowest
 unfoldable pub limitOf : ℕ → ℕ
 limitOf letter = cond (eqb letter 99) 4294967295 (plainLimit letter)
+
+-- each of the first so many numbers is within the limit of its letter
+pub record Limited (form numbers : List ℕ) (count : ℕ) : Type 0 where
+  pub limit : (i : ℕ) → i < count → getD numbers i 0 ≤ limitOf (getD form i 0)
 
 -- the address that four numbers of a request are, from the place on
 abbrev pub addressAt : ℕ → List ℕ → Address

@@ -8,7 +8,7 @@ ghost use mathlib.Core.Bool.{true};
 ghost use Prim.Native.Nat.{_+_, _≤_, _<_};
 ghost use lib.Dec.{eqb};
 ghost use lib.ListN.{length};
-ghost use Rattle.requests.specs.Parsing.{valueOf, plainLimit, limitOf};
+ghost use Rattle.requests.specs.Parsing.{valueOf, plainLimit, limitOf, Limited};
 use crate::types::Field;
 use crate::types::MOST_NUMBERS;
 use crate::types::Numbers;
@@ -182,7 +182,7 @@ pub fn number_at(line: &[u8], cursor: usize, letter: u8) -> Taken
 
 // The numbers of the next fields, and the cursor past them.
 fn numbers_at(line: &[u8], cursor: usize, form: &[u8], numbers: &mut Numbers) -> usize
-    ensures { λ r. ⌜ (r < 18446744073709551615 → length (now (form .entry)) ≤ 23) ⌝ }
+    ensures { λ r. ⌜ (r < 18446744073709551615 → Limited (now (form .entry)) (now (numbers .exit)) (length (now (form .entry)))) ⌝ }
 {
     let mut at = cursor;
     for i in 0..form.len() {
@@ -198,7 +198,7 @@ fn numbers_at(line: &[u8], cursor: usize, form: &[u8], numbers: &mut Numbers) ->
 
 // The same, and whether they are the rest of the line.
 pub fn take_numbers(line: &[u8], cursor: usize, form: &[u8], numbers: &mut Numbers) -> bool
-    ensures { λ r. ⌜ (r ≡ true → length (now (form .entry)) ≤ 23) ⌝ }
+    ensures { λ r. ⌜ (r ≡ true → Limited (now (form .entry)) (now (numbers .exit)) (length (now (form .entry)))) ⌝ }
 {
     is_end(line, numbers_at(line, cursor, form, numbers))
 }
