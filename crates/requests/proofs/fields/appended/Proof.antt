@@ -1,4 +1,4 @@
--- `requests::fields::appended` is safe: what it makes is at most `most`, which fits.
+-- `requests::fields::appended` meets its contract: what it makes is at most `most`, which fits.
 -- Assumes nothing.
 use Prim.Native.Nat.{ℕ, _+_, _-_, _*_, _/_, _≤_}
 use native.Mathlib.Nat.{div-mul-le-self, mul-le-mul-left, mul-comm}
