@@ -8,5 +8,6 @@
 // proofs/Thirteen      13 is answered exactly for the others
 // proofs/CutAnywhere   a run in blocks, cut anywhere, is its single steps
 // proofs/StepsCounted  a block's count is of the steps in which a bit is taken
+// proofs/Apart         places at which an accepted linear word never has two ones side by side, on which demand 3 rests
 // proofs/Demand3       each code word is reported, as itself, at its 80th bit
 // proofs/Impostors     one that never reports, refuses each word or reports one fixed address fails it

@@ -1,4 +1,4 @@
-// Text put into a lent run, and numbers as text.
+// What the lines that are printed are put together with, in lent runs.
 //
 // laying     text put into a run
 // digits     numbers as text

@@ -6,5 +6,3 @@
 // proofs/Words    linear words and records
 // proofs/Lines    vertical interval lines and records
 // proofs/Packets  packets, and record, type and second byte
-//
-// proofs/Apart    places at which an accepted linear word never has two ones side by side, on which demand 3 rests
