@@ -6,7 +6,8 @@ use lib.ListN.{length, length-append}
 use Rattle.reader.specs.declared.types.Heard.{Heard}
 use Rattle.reader.specs.declared.types.Heard.the-variants.{Nothing, Accepted, Refused}
 use Rattle.text.proofs.Spelled.{at-most}
-use Rattle.lines.specs.Lines.{addressText, groupsText, acceptedText, refusedText, lineOf}
+use Rattle.figures.specs.Figures.{addressText, groupsText}
+use Rattle.lines.specs.Lines.{acceptedText, refusedText, lineOf}
 
 -- every line has room in 64 places
 pub line-short : (bits : ℕ) (heard : Heard) → length (lineOf bits heard) ≤ 64

@@ -12,7 +12,8 @@ use Rattle.register.specs.Held.{readerWith, unreached}
 use Rattle.reader.specs.Steps.{heardIn, steppedOf}
 use Rattle.following.specs.Reach.{fed, answers}
 use Rattle.text.specs.Numerals.{decimalWithin, hexDigit}
-use Rattle.lines.specs.Lines.{addressText, groupsText, acceptedText, lineOf, endLineOf}
+use Rattle.figures.specs.Figures.{addressText, groupsText}
+use Rattle.lines.specs.Lines.{acceptedText, lineOf, endLineOf}
 use Rattle.characters.specs.Characters.{bitsIn, goesOn}
 use Rattle.scribe.specs.Told.{freshScribe, linesOf, textOf, scribeAfter}
 use Rattle.readout.specs.Sample.{theWord, theTwoLines}

@@ -8,7 +8,8 @@ use lib.ListN.{length}
 use Rattle.record.specs.declared.types.Record.{Record}
 use Rattle.text.specs.Ascii.{space, lineFeed}
 use Rattle.text.proofs.Appends.{Appended, Stands, two-stand}
-use Rattle.lines.specs.Lines.{addressText, groupsText, acceptedText}
+use Rattle.figures.specs.Figures.{addressText, groupsText}
+use Rattle.lines.specs.Lines.{acceptedText}
 use Rattle.lines.proofs.telling.lay_accepted.Statement.{statement}
 use Rattle.lines.proofs.telling.lay_accepted.Tie as tie
 

@@ -1,4 +1,4 @@
--- `lines::telling::groups_text` meets its contract: eight digits, each as its group has it.
+-- `figures::spelling::groups_text` meets its contract: eight digits, each as its group has it.
 -- Assumes nothing.
 use borrow.Author.Needs.{needs}
 use Prim.Native.Nat.{ℕ}
@@ -7,9 +7,9 @@ use mathlib.Core.List.{[], _∷_, _++_}
 use Rattle.record.specs.declared.types.Groups.{Groups}
 use Rattle.text.specs.Ascii.{space, lineFeed}
 use Rattle.text.specs.Numerals.{hexDigit}
-use Rattle.lines.specs.Lines.{groupsText}
-use Rattle.lines.proofs.telling.groups_text.Statement.{statement}
-use Rattle.lines.proofs.telling.groups_text.Tie as tie
+use Rattle.figures.specs.Figures.{groupsText}
+use Rattle.figures.proofs.spelling.groups_text.Statement.{statement}
+use Rattle.figures.proofs.spelling.groups_text.Tie as tie
 
 grouped :
     (k : Groups) {a b c d e f g h : ℕ}

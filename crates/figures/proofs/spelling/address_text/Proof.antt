@@ -1,4 +1,4 @@
--- `lines::telling::address_text` meets its contract: the address with the character that the drop flag asks for.
+-- `figures::spelling::address_text` meets its contract: the address with the character that the drop flag asks for.
 -- Assumes nothing.
 use borrow.Author.Needs.{needs}
 use Prim.Native.Nat.{ℕ}
@@ -6,9 +6,9 @@ use mathlib.Core.Path.{_≡_, ap, _∙_}
 use mathlib.Core.List.{List, _∷_, _++_}
 use Rattle.record.specs.declared.types.Record.{Record}
 use Rattle.text.specs.Ascii.{space}
-use Rattle.lines.specs.Lines.{colon, twoDigits, beforeFrames, addressText}
-use Rattle.lines.proofs.telling.address_text.Statement.{statement}
-use Rattle.lines.proofs.telling.address_text.Tie as tie
+use Rattle.figures.specs.Figures.{colon, twoDigits, beforeFrames, addressText}
+use Rattle.figures.proofs.spelling.address_text.Statement.{statement}
+use Rattle.figures.proofs.spelling.address_text.Tie as tie
 
 -- a space and the address, with this character before the frames
 abbrev withMark : Record → ℕ → List ℕ

@@ -1,0 +1,2 @@
+-- Figures   an address and eight groups, character by character
+pub mod Figures
