@@ -1,2 +1,2 @@
--- Where answers go.
+-- Places   where the next byte goes once something was put
 pub mod Places

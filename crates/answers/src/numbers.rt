@@ -1,12 +1,12 @@
 // Numbers in decimal.
 ghost use Prim.Native.Nat.{_<_, _≤_};
 ghost use lib.ListN.{length};
-ghost use Rattle.answers.specs.Places.{Follows};
+ghost use Rattle.answers.specs.Places.{Onward};
 use crate::text::put;
 use crate::text::put_text;
 
 pub fn put_digits(out: &mut [u8], at: usize, number: u64) -> usize
-    ensures { λ r. ⌜ Follows at (length (now (out .entry))) r ⌝ }
+    ensures { λ r. ⌜ Onward at (length (now (out .entry))) r ⌝ }
 {
     let mut digits = [0u8; 20];
     let count = io::decimal(number, &mut digits);
@@ -14,7 +14,7 @@ pub fn put_digits(out: &mut [u8], at: usize, number: u64) -> usize
 }
 
 pub fn put_number(out: &mut [u8], at: usize, number: u64) -> usize
-    ensures { λ r. ⌜ Follows at (length (now (out .entry))) r ⌝ }
+    ensures { λ r. ⌜ Onward at (length (now (out .entry))) r ⌝ }
 {
     let next = put(out, at, b' ');
     put_digits(out, next, number)
@@ -37,7 +37,7 @@ fn size(number: i32) -> u64 {
 }
 
 pub fn put_signed(out: &mut [u8], at: usize, number: i32) -> usize
-    ensures { λ r. ⌜ Follows at (length (now (out .entry))) r ⌝ }
+    ensures { λ r. ⌜ Onward at (length (now (out .entry))) r ⌝ }
 {
     let size = size(number);
     if number < 0 {

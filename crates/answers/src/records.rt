@@ -1,7 +1,7 @@
 // Fields that are bytes, an address and a record.
 ghost use Prim.Native.Nat.{_≤_};
 ghost use lib.ListN.{length};
-ghost use Rattle.answers.specs.Places.{Follows};
+ghost use Rattle.answers.specs.Places.{Onward};
 use crate::numbers::put_number;
 use crate::text::put_text;
 use rates::Address;
@@ -9,13 +9,13 @@ use rates::Flag;
 use record::Record;
 
 pub fn put_byte(out: &mut [u8], at: usize, byte: u8) -> usize
-    ensures { λ r. ⌜ Follows at (length (now (out .entry))) r ⌝ }
+    ensures { λ r. ⌜ Onward at (length (now (out .entry))) r ⌝ }
 {
     put_number(out, at, byte as u64)
 }
 
 fn put_bytes(out: &mut [u8], at: usize, bytes: &[u8]) -> usize
-    ensures { λ r. ⌜ Follows at (length (now (out .entry))) r ⌝ }
+    ensures { λ r. ⌜ Onward at (length (now (out .entry))) r ⌝ }
 {
     let mut next = at;
     for i in 0..bytes.len() {

@@ -1,10 +1,10 @@
 // Text as it is.
 ghost use lib.ListN.{length};
-ghost use Rattle.answers.specs.Places.{Follows};
+ghost use Rattle.answers.specs.Places.{Onward};
 
 // One byte; nothing where no place is left.
 pub fn put(out: &mut [u8], at: usize, byte: u8) -> usize
-    ensures { λ r. ⌜ Follows at (length (now (out .entry))) r ⌝ }
+    ensures { λ r. ⌜ Onward at (length (now (out .entry))) r ⌝ }
 {
     if at < out.len() {
         out[at] = byte;
@@ -14,7 +14,7 @@ pub fn put(out: &mut [u8], at: usize, byte: u8) -> usize
 }
 
 pub fn put_text(out: &mut [u8], at: usize, text: &[u8]) -> usize
-    ensures { λ r. ⌜ Follows at (length (now (out .entry))) r ⌝ }
+    ensures { λ r. ⌜ Onward at (length (now (out .entry))) r ⌝ }
 {
     let mut next = at;
     for i in 0..text.len() {

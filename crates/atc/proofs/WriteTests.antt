@@ -10,7 +10,7 @@ use Rattle.refusals.proofs.Answered.{Clear, otherwise-accepted}
 use Rattle.refusals.proofs.ByNumber.{rowsBefore, clear-from}
 use Rattle.runs.specs.declared.types.Written.{Written}
 use Rattle.runs.specs.declared.types.Written.the-variants.{Refused as Unwritten}
-use Rattle.runs.specs.Run.{writtenBy, runAfter}
+use Rattle.runs.specs.Run.{writtenBy, runAfter, roomRefusals}
 use Rattle.runs.proofs.Written.{turned-away}
 use Rattle.record.specs.declared.types.Record.{Record}
 use Rattle.record.specs.declared.types.Packed.the-variants.{Bits, Refused as Unpackable}
@@ -18,7 +18,6 @@ use Rattle.modes.specs.Modes.{unknown, withMode}
 use Rattle.modes.specs.Calls.{writeRefusalsIn, packedIn}
 use Rattle.modes.proofs.Told.{refused-as, packed-is}
 use Rattle.packets.specs.Packet.{packetWith, unknownType}
-use Rattle.packets.specs.Calls.{roomRefusals}
 use Rattle.atc.specs.Calls.{packetOf, writtenRows, writtenOf, runOf}
 
 -- what a call promised of its answer, once the answer is looked at
@@ -60,15 +59,15 @@ module _ (mode : ℕ) (r : Record) (type second start : ℕ) (run : List ℕ) wh
 
         -- the packet was placed, or there was no room for it: what came back is what the write answers
         pub placed : (answered : Written) (left : List ℕ)
-            → (answered ≡ writtenBy (roomRefusals start run)) × (left ≡ runAfter (roomRefusals start run) start (packetWith info type second) run)
+            → (answered ≡ writtenBy (roomRefusals 23 start run)) × (left ≡ runAfter (roomRefusals 23 start run) start (packetWith info type second) run)
             → Outcome answered left
         unfolding writtenOf runOf
         placed answered left told =
             let before = rowsBefore no-room rows in
             let clear : Clear before = (known, (typed, own)) in
             let word = packetOf mode r type second in (
-              told .0 ∙ sym (otherwise-accepted Unwritten (writtenBy (roomRefusals start run)) before clear),
+              told .0 ∙ sym (otherwise-accepted Unwritten (writtenBy (roomRefusals 23 start run)) before clear),
               told .1
                   ∙ rw (← packed-is mode r info e .1)
-                  (sym (otherwise-accepted (λ (k : ℕ). run) (runAfter (roomRefusals start run) start word run) before clear)),
+                  (sym (otherwise-accepted (λ (k : ℕ). run) (runAfter (roomRefusals 23 start run) start word run) before clear)),
             )

@@ -5,13 +5,13 @@ use mathlib.Core.List.{List, _∷_, _++_}
 use Rattle.refusals.specs.Table.{unknown-type}
 use Rattle.refusals.specs.Answer.{Refusal, _when_, answer}
 use Rattle.runs.specs.declared.types.Written.{Written}
-use Rattle.runs.specs.Run.{writtenBy, runAfter}
+use Rattle.runs.specs.Run.{writtenBy, runAfter, roomRefusals}
 use Rattle.record.specs.declared.types.Record.{Record}
 use Rattle.modes.specs.Modes.{withMode}
 use Rattle.modes.specs.Calls.{recordIn, informationIn, bitsRefusalsIn, writeRefusalsIn}
 use Rattle.words.specs.Words.{infoIn}
 use Rattle.packets.specs.Packet.{packetWith, dataIn, typeIn, secondIn, unknownType}
-use Rattle.packets.specs.Calls.{formRefusals, roomRefusals}
+use Rattle.packets.specs.Calls.{formRefusals}
 use Rattle.atc.specs.declared.types.Contents.{Contents}
 use Rattle.atc.specs.declared.types.Packet.{Packet}
 use Rattle.atc.specs.declared.types.Packet.the-variants.{Holds, Refused as Unread}
@@ -36,7 +36,7 @@ readOf mode words =
 abbrev pub writtenRows : ℕ → Record → ℕ → ℕ → List ℕ → List Refusal
 writtenRows mode r type start run =
     withMode mode
-    ((unknown-type when unknownType type) ∷ (writeRefusalsIn mode r ++ roomRefusals start run))
+    ((unknown-type when unknownType type) ∷ (writeRefusalsIn mode r ++ roomRefusals 23 start run))
 
 unfoldable pub writtenOf : ℕ → Record → ℕ → ℕ → List ℕ → Written
 writtenOf mode r type start run = writtenBy (writtenRows mode r type start run)

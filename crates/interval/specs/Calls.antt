@@ -5,10 +5,9 @@ use mathlib.Core.Bool.{not}
 use mathlib.Core.List.{List, [], _∷_}
 use lib.Dec.{eqb}
 use lib.ListN.{length}
-use Rattle.refusals.specs.Table.{wrong-length, unknown-mode, element-too-high, wrong-sync, wrong-check, no-room}
+use Rattle.refusals.specs.Table.{wrong-length, unknown-mode, element-too-high, wrong-sync, wrong-check}
 use Rattle.refusals.specs.Answer.{Refusal, _when_}
 use Rattle.bits.specs.Bits.{someAbove}
-use Rattle.runs.specs.Run.{noRoom}
 use Rattle.modes.specs.Modes.{unknown}
 use Rattle.interval.specs.Line.{wrongPair, wrongCrc}
 
@@ -21,7 +20,3 @@ formRefusals mode line =
     ∷ (wrong-sync when wrongPair line)
     ∷ (wrong-check when wrongCrc line)
     ∷ []
-
--- 12 fewer than 90 elements from the start given, or start past the end
-abbrev pub roomRefusals : ℕ → List ℕ → List Refusal
-roomRefusals start run = (no-room when noRoom 90 start (length run)) ∷ []

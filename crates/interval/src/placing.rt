@@ -2,9 +2,8 @@
 ghost use mathlib.Core.Path.{_≡_};
 ghost use lib.ListN.{length};
 ghost use Rattle.bits.specs.Bits.{value};
-ghost use Rattle.runs.specs.Run.{writtenBy, runAfter};
+ghost use Rattle.runs.specs.Run.{writtenBy, runAfter, roomRefusals};
 ghost use Rattle.interval.specs.Line.{crcOf, groups, lineWith};
-ghost use Rattle.interval.specs.Calls.{roomRefusals};
 use crate::parity::parity;
 use runs::Written;
 
@@ -50,8 +49,8 @@ fn write_line(info: u64, line: &mut [u8])
 }
 
 pub fn place(info: u64, start: usize, run: &mut [u8]) -> Written
-    ensures { λ w. ⌜ (w ≡ writtenBy (roomRefusals start (now (run .entry))))
-        × (now (run .exit) ≡ runAfter (roomRefusals start (now (run .entry))) start (lineWith info) (now (run .entry))) ⌝ }
+    ensures { λ w. ⌜ (w ≡ writtenBy (roomRefusals 90 start (now (run .entry))))
+        × (now (run .exit) ≡ runAfter (roomRefusals 90 start (now (run .entry))) start (lineWith info) (now (run .entry))) ⌝ }
 {
     if runs::lacks_room(90, start, run.len()) {
         return Written::Refused(refusals::NO_ROOM);

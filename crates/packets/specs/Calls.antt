@@ -5,10 +5,9 @@ use mathlib.Core.Bool.{not, _||_}
 use mathlib.Core.List.{List, [], _∷_}
 use lib.Dec.{eqb}
 use lib.ListN.{length, getD}
-use Rattle.refusals.specs.Table.{wrong-length, unknown-mode, element-too-high, wrong-sync, wrong-check, low-bits-set, no-room}
+use Rattle.refusals.specs.Table.{wrong-length, unknown-mode, element-too-high, wrong-sync, wrong-check, low-bits-set}
 use Rattle.refusals.specs.Answer.{Refusal, _when_}
 use Rattle.bits.specs.Bits.{someAbove}
-use Rattle.runs.specs.Run.{noRoom}
 use Rattle.modes.specs.Modes.{unknown}
 use Rattle.words.specs.Words.{wrongWord, lowSet, someWord}
 use Rattle.packets.specs.Packet.{isHeaded, checksumOf, dataIn}
@@ -24,7 +23,3 @@ formRefusals mode words =
     ∷ (wrong-check when (someWord wrongWord (dataIn words) || not (eqb (getD words 22 0) (checksumOf words))))
     ∷ (low-bits-set when someWord lowSet (dataIn words))
     ∷ []
-
--- 12 fewer than 23 elements from the start, or start past the end
-abbrev pub roomRefusals : ℕ → List ℕ → List Refusal
-roomRefusals start run = (no-room when noRoom 23 start (length run)) ∷ []

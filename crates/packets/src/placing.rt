@@ -1,9 +1,8 @@
 // The 23 words into the middle of a lent run.
 ghost use mathlib.Core.Path.{_≡_};
 ghost use lib.ListN.{length};
-ghost use Rattle.runs.specs.Run.{writtenBy, runAfter};
+ghost use Rattle.runs.specs.Run.{writtenBy, runAfter, roomRefusals};
 ghost use Rattle.packets.specs.Packet.{header, packetWith};
-ghost use Rattle.packets.specs.Calls.{roomRefusals};
 use runs::Written;
 
 // The first six words.
@@ -32,8 +31,8 @@ fn store(info: u64, payload_type: u8, second: u8, run: &mut [u16])
 }
 
 pub fn place(info: u64, payload_type: u8, second: u8, start: usize, run: &mut [u16]) -> Written
-    ensures { λ w. ⌜ (w ≡ writtenBy (roomRefusals start (now (run .entry))))
-        × (now (run .exit) ≡ runAfter (roomRefusals start (now (run .entry))) start (packetWith info «payload_type» second) (now (run .entry))) ⌝ }
+    ensures { λ w. ⌜ (w ≡ writtenBy (roomRefusals 23 start (now (run .entry))))
+        × (now (run .exit) ≡ runAfter (roomRefusals 23 start (now (run .entry))) start (packetWith info «payload_type» second) (now (run .entry))) ⌝ }
 {
     if runs::lacks_room(23, start, run.len()) {
         return Written::Refused(refusals::NO_ROOM);

@@ -1,7 +1,7 @@
 // What was heard, and what is held after it.
 ghost use Prim.Native.Nat.{_≤_};
 ghost use lib.ListN.{length};
-ghost use Rattle.answers.specs.Places.{Follows};
+ghost use Rattle.answers.specs.Places.{Onward};
 use answers::put;
 use answers::put_bits;
 use answers::put_digits;
@@ -45,7 +45,7 @@ fn places(low: u64, high: u16) -> [u8; 80] {
 
 // The bits that are held; where a one stands below them, the register from there on, and how many of it are held.
 fn put_held(out: &mut [u8], at: usize, after: Reader) -> usize
-    ensures { λ r. ⌜ Follows at (length (now (out .entry))) r ⌝ }
+    ensures { λ r. ⌜ Onward at (length (now (out .entry))) r ⌝ }
 {
     let held = after.held as usize;
     if 80 < held {

@@ -33,5 +33,5 @@ pub record Limited (form numbers : List ℕ) (count : ℕ) : Type 0 where
   pub limit : (i : ℕ) → i < count → getD numbers i 0 ≤ limitOf (getD form i 0)
 
 -- the address that four numbers of a request are, from the place on
-abbrev pub addressAt : ℕ → List ℕ → Address
-addressAt place n = showing (getD n place 0 % 256) (getD n (place + 1) 0 % 256) (getD n (place + 2) 0 % 256) (getD n (place + 3) 0 % 256)
+abbrev pub addressFrom : ℕ → List ℕ → Address
+addressFrom place n = showing (getD n place 0 % 256) (getD n (place + 1) 0 % 256) (getD n (place + 2) 0 % 256) (getD n (place + 3) 0 % 256)

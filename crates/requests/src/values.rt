@@ -3,7 +3,7 @@ ghost use mathlib.Core.Path.{_≡_};
 ghost use Prim.Native.Nat.{_%_, _<_, _^_};
 ghost use lib.IntN.{subℕ};
 ghost use Rattle.rates.specs.Face.{showing};
-ghost use Rattle.requests.specs.Parsing.{addressAt};
+ghost use Rattle.requests.specs.Parsing.{addressFrom};
 use crate::types::Numbers;
 use clock::DayFrame;
 use layout::flag;
@@ -74,7 +74,7 @@ fn groups_in(n: &Numbers) -> Groups {
 
 // RECORD, from the fourth number of a write on.
 pub fn record_in(n: &Numbers) -> Record
-    ensures { λ r. ⌜ r .address ≡ addressAt 3 (now (n .entry)) ⌝ }
+    ensures { λ r. ⌜ r .address ≡ addressFrom 3 (now (n .entry)) ⌝ }
 {
     Record {
         address: address_in(n[3], n[4], n[5], n[6]),

@@ -5,7 +5,8 @@ use mathlib.Core.Bool.{cond}
 use lib.Dec.{ltb, leb}
 use lib.IntN.{ℤ, pos, negsuc, subℕ}
 
--- "later number less earlier, brought by whole days into the range from minus half a day up to, and not including, plus half a day"
+-- "later number less earlier, brought by whole days into the range from minus half a day up to, and not including, plus half a day": one day
+-- is enough for two numbers of a day, and half a day is a number where the day's count is even, as it is at every rate
 unfoldable pub distanceOf : ℕ → ℕ → ℕ → ℤ
 distanceOf day from to =
     cond (ltb (to + day / 2) from) (subℕ (to + day) from)

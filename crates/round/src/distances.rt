@@ -1,4 +1,4 @@
-// From one number to another, the shorter way round.
+// From one number to another, brought nearer by a day where that is more than half a day off.
 ghost use mathlib.Core.Path.{_≡_};
 ghost use Prim.Native.Nat.{_+_, _^_, _<_};
 ghost use lib.IntN.{subℕ};

@@ -6,7 +6,8 @@ use mathlib.Core.Bool.{Bool, true, false, _&&_}
 use mathlib.Core.List.{List, [], _∷_, _++_}
 use lib.Dec.{ltb, eqb}
 use lib.ListN.{length, take, drop}
-use Rattle.refusals.specs.Answer.{Refusal, answer}
+use Rattle.refusals.specs.Table.{no-room}
+use Rattle.refusals.specs.Answer.{Refusal, _when_, answer}
 use Rattle.runs.specs.declared.types.Written.{Written}
 use Rattle.runs.specs.declared.types.Written.the-variants.{Done, Refused}
 
@@ -17,6 +18,10 @@ placed start word run = take start run ++ (word ++ drop (start + length word) ru
 -- "fewer than 80, 90 or 23 elements from the start given, or start past the end", in a run of so many elements
 abbrev pub noRoom : ℕ → ℕ → ℕ → Bool
 noRoom size start elements = ltb elements (start + size)
+
+-- the refusal of what needs nothing but room for so many
+abbrev pub roomRefusals : ℕ → ℕ → List ℕ → List Refusal
+roomRefusals size start run = (no-room when noRoom size start (length run)) ∷ []
 
 -- what a write answers: the first of its refusals that applies, or that it is done
 abbrev pub writtenBy : List Refusal → Written

@@ -7,7 +7,7 @@ use Rattle.refusals.specs.Answer.{Refusal}
 use Rattle.refusals.proofs.Answered.{otherwise-accepted}
 use Rattle.runs.specs.declared.types.Written.{Written}
 use Rattle.runs.specs.declared.types.Written.the-variants.{Refused as Unwritten}
-use Rattle.runs.specs.Run.{writtenBy, runAfter}
+use Rattle.runs.specs.Run.{writtenBy, runAfter, roomRefusals}
 use Rattle.record.specs.declared.types.Record.{Record}
 use Rattle.record.specs.declared.types.Packed.{Packed}
 use Rattle.record.specs.declared.types.Packed.the-variants.{Bits, Refused as Unpackable}
@@ -15,7 +15,6 @@ use Rattle.modes.specs.Modes.{withMode}
 use Rattle.modes.specs.Calls.{writeRefusalsIn, packedIn}
 use Rattle.modes.proofs.Told.{refused-as, packed-is}
 use Rattle.interval.specs.Line.{lineWith}
-use Rattle.interval.specs.Calls.{roomRefusals}
 use Rattle.vitc.specs.Calls.{lineOf, writtenOf, runOf}
 
 module _ (mode start : ℕ) (r : Record) (run : List ℕ) (packed : Packed) (asked : packed ≡ packedIn mode r) where
@@ -28,14 +27,14 @@ module _ (mode start : ℕ) (r : Record) (run : List ℕ) (packed : Packed) (ask
 
   -- the line was placed, or there was no room for it: what came back is what the write answers
   pub placed : (info : ℕ) → packed ≡ Bits info → (answered : Written) (left : List ℕ)
-      → (answered ≡ writtenBy (roomRefusals start run)) × (left ≡ runAfter (roomRefusals start run) start (lineWith info) run)
+      → (answered ≡ writtenBy (roomRefusals 90 start run)) × (left ≡ runAfter (roomRefusals 90 start run) start (lineWith info) run)
       → Outcome answered left
   unfolding writtenOf lineOf
   placed info e answered left told =
       let made = packed-is mode r info (sym asked ∙ e) in
       let before : List Refusal = withMode mode (writeRefusalsIn mode r) in (
-        told .0 ∙ sym (otherwise-accepted Unwritten (writtenBy (roomRefusals start run)) before (made .0)),
+        told .0 ∙ sym (otherwise-accepted Unwritten (writtenBy (roomRefusals 90 start run)) before (made .0)),
         told .1
             ∙ rw (← made .1)
-            (sym (otherwise-accepted (λ (k : ℕ). run) (runAfter (roomRefusals start run) start (lineOf mode r) run) before (made .0))),
+            (sym (otherwise-accepted (λ (k : ℕ). run) (runAfter (roomRefusals 90 start run) start (lineOf mode r) run) before (made .0))),
       )

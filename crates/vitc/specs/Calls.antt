@@ -4,14 +4,14 @@ use Prim.Native.Nat.{ℕ}
 use mathlib.Core.List.{List, _++_}
 use Rattle.refusals.specs.Answer.{Refusal, answer}
 use Rattle.runs.specs.declared.types.Written.{Written}
-use Rattle.runs.specs.Run.{writtenBy, runAfter}
+use Rattle.runs.specs.Run.{writtenBy, runAfter, roomRefusals}
 use Rattle.record.specs.declared.types.Record.{Record}
 use Rattle.record.specs.declared.types.Unpacked.{Unpacked}
 use Rattle.record.specs.declared.types.Unpacked.the-variants.{Holds, Refused as Unheld}
 use Rattle.modes.specs.Modes.{withMode}
 use Rattle.modes.specs.Calls.{recordIn, informationIn, bitsRefusalsIn, writeRefusalsIn}
 use Rattle.interval.specs.Line.{infoIn, lineWith}
-use Rattle.interval.specs.Calls.{formRefusals, roomRefusals}
+use Rattle.interval.specs.Calls.{formRefusals}
 
 -- those of the form; then those of the 64 bits
 abbrev pub readRefusals : ℕ → List ℕ → List Refusal
@@ -22,7 +22,7 @@ readOf mode line = answer Unheld (readRefusals mode line) (Holds (recordIn mode 
 
 -- 2 a mode that is unknown; those of the record; 12 fewer than 90 elements from the start given, or start past the end
 abbrev pub writtenRows : ℕ → Record → ℕ → List ℕ → List Refusal
-writtenRows mode r start run = withMode mode (writeRefusalsIn mode r ++ roomRefusals start run)
+writtenRows mode r start run = withMode mode (writeRefusalsIn mode r ++ roomRefusals 90 start run)
 
 unfoldable pub writtenOf : ℕ → Record → ℕ → List ℕ → Written
 writtenOf mode r start run = writtenBy (writtenRows mode r start run)

@@ -3,13 +3,13 @@
 use mathlib.Core.Path.{_≡_}
 use Prim.Native.Nat.{_-_, _≤_}
 use lib.ListN.{length}
-use Rattle.answers.specs.Places.{Follows}
+use Rattle.answers.specs.Places.{Onward}
 use borrow.Author.Needs.{needs}
 use Rattle.answers.proofs.elements.put_bits.Statement.{statement}
 use Rattle.answers.proofs.elements.put_bits.Tie as tie
 
 abbrev Inv-loop : tie.InvT-loop
-Inv-loop out₀ at run next₀ i₀ i-end out next i = (i ≤ length run) × ((length out ≡ length out₀) × Follows at (length out₀) next)
+Inv-loop out₀ at run next₀ i₀ i-end out next i = (i ≤ length run) × ((length out ≡ length out₀) × Onward at (length out₀) next)
 
 abbrev μ-loop : tie.MeasureT-loop
 μ-loop out₀ at run next₀ i₀ i-end out next i = length run - i

@@ -10,22 +10,21 @@ use borrow.Author.Needs.{needs}
 use borrow.Rule.Slice.PartMut.{putMid}
 use Rattle.refusals.specs.Table.{no-room}
 use Rattle.runs.specs.declared.types.Written.the-variants.{Done, Refused as Unwritten}
-use Rattle.runs.specs.Run.{noRoom}
+use Rattle.runs.specs.Run.{noRoom, roomRefusals}
 use Rattle.runs.proofs.Written.{Outcome, turned-away, written-there, room-told}
 use Rattle.interval.specs.Line.{lineWith}
-use Rattle.interval.specs.Calls.{roomRefusals}
 use Rattle.interval.proofs.Shape.{length-line}
 use Rattle.interval.proofs.placing.place.Statement.{statement}
 use Rattle.interval.proofs.placing.place.Tie as tie
 
 module _ (info start : ℕ) (run : List ℕ) (full : Bool) (measured : full ≡ noRoom 90 start (length run)) where
-  crowded : full ≡ true → Outcome (roomRefusals start run) start (lineWith info) run (Unwritten 12) run
-  crowded t = turned-away (roomRefusals start run) start (lineWith info) run no-room tt (sym measured ∙ t)
+  crowded : full ≡ true → Outcome (roomRefusals 90 start run) start (lineWith info) run (Unwritten 12) run
+  crowded t = turned-away (roomRefusals 90 start run) start (lineWith info) run no-room tt (sym measured ∙ t)
 
   done : full ≡ false → (part : List ℕ) → part ≡ lineWith info
-      → Outcome (roomRefusals start run) start (lineWith info) run Done (putMid start ((start + 90) - start) run part)
+      → Outcome (roomRefusals 90 start run) start (lineWith info) run Done (putMid start ((start + 90) - start) run part)
   done f part made =
-      written-there (roomRefusals start run) start (lineWith info) run (sym measured ∙ f, tt) 90 (length-line info) part made
+      written-there (roomRefusals 90 start run) start (lineWith info) run (sym measured ∙ f, tt) 90 (length-line info) part made
 
 -- where room was not lacking, the line's elements are all there
 room : (c : tie.Else1) → let args = c .before .before .before .args in args .start + 90 ≤ length (args .run .now)

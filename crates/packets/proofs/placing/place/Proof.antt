@@ -10,22 +10,21 @@ use borrow.Author.Needs.{needs}
 use borrow.Rule.Slice.PartMut.{putMid}
 use Rattle.refusals.specs.Table.{no-room}
 use Rattle.runs.specs.declared.types.Written.the-variants.{Done, Refused as Unwritten}
-use Rattle.runs.specs.Run.{noRoom}
+use Rattle.runs.specs.Run.{noRoom, roomRefusals}
 use Rattle.runs.proofs.Written.{Outcome, turned-away, written-there, room-told}
 use Rattle.packets.specs.Packet.{packetWith}
-use Rattle.packets.specs.Calls.{roomRefusals}
 use Rattle.packets.proofs.Pieces.{length-packet}
 use Rattle.packets.proofs.placing.place.Statement.{statement}
 use Rattle.packets.proofs.placing.place.Tie as tie
 
 module _ (info type second start : ℕ) (run : List ℕ) (full : Bool) (measured : full ≡ noRoom 23 start (length run)) where
-  crowded : full ≡ true → Outcome (roomRefusals start run) start (packetWith info type second) run (Unwritten 12) run
-  crowded t = turned-away (roomRefusals start run) start (packetWith info type second) run no-room tt (sym measured ∙ t)
+  crowded : full ≡ true → Outcome (roomRefusals 23 start run) start (packetWith info type second) run (Unwritten 12) run
+  crowded t = turned-away (roomRefusals 23 start run) start (packetWith info type second) run no-room tt (sym measured ∙ t)
 
   done : full ≡ false → (part : List ℕ) → part ≡ packetWith info type second
-      → Outcome (roomRefusals start run) start (packetWith info type second) run Done (putMid start ((start + 23) - start) run part)
+      → Outcome (roomRefusals 23 start run) start (packetWith info type second) run Done (putMid start ((start + 23) - start) run part)
   done f part made =
-      written-there (roomRefusals start run) start (packetWith info type second) run (sym measured ∙ f, tt) 23 (length-packet info type second) part made
+      written-there (roomRefusals 23 start run) start (packetWith info type second) run (sym measured ∙ f, tt) 23 (length-packet info type second) part made
 
 -- where room was not lacking, the packet's elements are all there
 room : (c : tie.Else1) → let args = c .before .before .before .args in args .start + 23 ≤ length (args .run .now)
