@@ -1,9 +1,10 @@
-// Fields that are bytes, an address and a record.
+// Fields that are bytes, an address, a record, and what was found beside it.
 ghost use Prim.Native.Nat.{_≤_};
 ghost use lib.ListN.{length};
 ghost use Rattle.answers.specs.Places.{Onward};
 use crate::numbers::put_number;
 use crate::text::put_text;
+use polarity::Found;
 use rates::Address;
 use rates::Flag;
 use record::Record;
@@ -80,4 +81,20 @@ pub fn put_record(out: &mut [u8], record: Record) -> usize
     let next = put_text(out, 0, b"record");
     let fields = fields_of(record);
     put_bytes(out, next, &fields)
+}
+
+// "FOUND is 0 corrected, 1 uncorrected".
+fn found_number(found: Found) -> u8 {
+    match found {
+        Found::Corrected => 0,
+        Found::Uncorrected => 1,
+    }
+}
+
+// `record RECORD FOUND`, of a linear word.
+pub fn put_read(out: &mut [u8], record: Record, found: Found) -> usize
+    ensures { λ r. ⌜ r ≤ length (now (out .entry)) ⌝ }
+{
+    let next = put_record(out, record);
+    put_byte(out, next, found_number(found))
 }

@@ -11,6 +11,7 @@ use Rattle.refusals.proofs.ByNumber.{clear-at}
 use Rattle.runs.specs.declared.types.Written.the-variants.{Done, Refused}
 use Rattle.runs.proofs.Written.{unchanged, apart, done-or-refused, done-clear, has-room}
 use Rattle.record.specs.declared.types.Record.{Record}
+use Rattle.polarity.specs.declared.types.Found.{Found}
 use Rattle.polarity.specs.Word.{wordOf}
 use Rattle.ltc.specs.Calls as ltc
 use Rattle.vitc.specs.Calls as vitc
@@ -19,9 +20,9 @@ use Rattle.atc.specs.Calls as atc
 use Rattle.demands.specs.Carriers.{linear, interval, ancillary, DoneOrRefused, Unchanged}
 
 -- Every write is done, or it is turned away with a number, and never both. Shut out: a write that does neither.
-pub linear-done-or-refused : DoneOrRefused linear
+pub linear-done-or-refused : (make : Found) → DoneOrRefused (linear make)
 unfolding ltc.writtenOf
-linear-done-or-refused mode r start run given = done-or-refused (ltc.writtenRows mode r start run)
+linear-done-or-refused make mode r start run given = done-or-refused (ltc.writtenRows mode r start run)
 
 pub interval-done-or-refused : DoneOrRefused interval
 unfolding vitc.writtenOf
@@ -34,9 +35,9 @@ ancillary-done-or-refused mode c start run byte =
     (⊎-elim (λ done. inl (byte, done)) inr (either .0), λ number done. either .1 number (done .1))
 
 -- "A write that is turned away changes no element lent to it." Shut out: a write that stores before it looks.
-pub linear-unchanged : Unchanged linear
+pub linear-unchanged : (make : Found) → Unchanged (linear make)
 unfolding ltc.writtenOf ltc.runOf
-linear-unchanged mode r start run = unchanged Refused Done apart (ltc.writtenRows mode r start run) start (wordOf mode r) run
+linear-unchanged make mode r start run = unchanged Refused Done apart (ltc.writtenRows mode r start run) start (wordOf mode r make) run
 
 pub interval-unchanged : Unchanged interval
 unfolding vitc.writtenOf
@@ -49,9 +50,9 @@ ancillary-unchanged mode c start run =
     (atc.packetOf mode (c .«record») (c .«payload_type») (c .second)) run
 
 -- and it is turned away where there is no room
-pub linear-room : (mode : ℕ) (r : Record) (start : ℕ) (run : List ℕ) → linear .Writes mode r start run → start + 80 ≤ length run
+pub linear-room : (make : Found) (mode : ℕ) (r : Record) (start : ℕ) (run : List ℕ) → linear make .Writes mode r start run → start + 80 ≤ length run
 unfolding ltc.writtenOf ltc.writtenRows
-linear-room mode r start run done =
+linear-room make mode r start run done =
     let rows = ltc.writtenRows mode r start run in has-room 80 start (length run) (clear-at no-room rows (done-clear rows done))
 
 pub interval-room : (mode : ℕ) (r : Record) (start : ℕ) (run : List ℕ) → interval .Writes mode r start run → start + 90 ≤ length run

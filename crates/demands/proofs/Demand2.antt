@@ -16,6 +16,7 @@ use Rattle.rates.specs.declared.types.Address.{Address}
 use Rattle.clock.specs.declared.types.DayFrame.{DayFrame}
 use Rattle.clock.specs.declared.types.Numbered.the-variants.{Number, Refused as Unnumbered}
 use Rattle.clock.specs.declared.types.Placed.the-variants.{At}
+use Rattle.record.specs.declared.types.Record.{Record}
 use Rattle.midnight.specs.Steps.{shown}
 use Rattle.midnight.proofs.Answers.{address-is-shown, refused-exactly}
 use Rattle.rates.specs.Rates.{isYes, framesInSecond, framesInDay}
@@ -23,14 +24,19 @@ use Rattle.modes.specs.Modes.{rateAt}
 use Rattle.modes.specs.Calls.{numberIn, addressIn}
 use Rattle.modes.proofs.Clocked.{number-at-rate, address-at-rate}
 use Rattle.trips.proofs.Numbers.{one-to-one}
-use Rattle.polarity.specs.Word.{wordOf}
+use Rattle.polarity.specs.declared.types.Found.{Found}
+use Rattle.polarity.specs.declared.types.Found.the-variants.{Corrected, Uncorrected}
+use Rattle.polarity.specs.declared.types.Word.the-variants.{Holds as Heard}
+use Rattle.polarity.specs.Word.{foundIn, wordOf}
+use Rattle.ltc.specs.Calls.{readOf}
+use Rattle.trips.proofs.Polarity.{odd-found}
 use Rattle.trips.proofs.Words as ltc
 use Rattle.vitc.specs.Calls.{lineOf}
 use Rattle.trips.proofs.Lines as vitc
 use Rattle.atc.specs.Calls.{packetOf}
 use Rattle.trips.proofs.Packets as atc
 use Rattle.demands.specs.Modes.{CountingMode}
-use Rattle.demands.specs.Carriers.{Carrier, linear, interval, ancillary, Accepting, Reading, Matches}
+use Rattle.demands.specs.Carriers.{Carrier, linear, FoundAsMade, interval, ancillary, only, Accepting, Reading, Matches}
 use Rattle.demands.proofs.Demand1.{linear-room, interval-room, ancillary-room}
 use Rattle.demands.proofs.Accepted.{known, allowed, acceptable-exactly}
 
@@ -93,18 +99,33 @@ matches carrier law mode c start run elements room = (there, back)
         → carrier .Writes mode c start run × (length elements ≡ carrier .size) × (carrier .leaves mode c start run ≡ placed start elements run)
     back reads = let written = law .read-writes mode c start run elements room reads in (written .0, law .sized mode c elements reads, written .1)
 
-linear-laws : Laws linear
-linear-laws =
+-- a word of an acceptable record is found as it was made, where that can be, and only there
+found-as-made : (make : Found) (mode : ℕ) (r : Record) → ltc.Acceptable mode r → FoundAsMade make mode r → foundIn (wordOf mode r make) ≡ make
+found-as-made Corrected mode r ok can = ltc.corrected-found mode r ok
+found-as-made Uncorrected mode r ok odd = rw odd
+
+made-as-found : (make : Found) (mode : ℕ) (r : Record) (word : List ℕ) → readOf mode word ≡ Heard r make → FoundAsMade make mode r
+made-as-found Corrected mode r word reads = tt
+made-as-found Uncorrected mode r word reads = rw (ltc.written-of-read mode r Uncorrected word reads .1) (odd-found word (ltc.read-clear mode r Uncorrected word reads .2))
+
+linear-laws : (make : Found) → Laws (only (FoundAsMade make) (linear make))
+linear-laws make =
     record {
-      roomy = linear-room;
-      done-reads = λ mode r start run room done. ltc.done-reads mode r start run done;
-      read-writes = λ mode r start run word room reads. ltc.read-writes mode r start run word reads room;
-      sized = λ mode r word reads. ltc.long mode word (ltc.read-clear mode r word reads .0);
+      roomy = λ mode r start run done. linear-room make mode r start run (done .0);
+      done-reads =
+          λ mode r start run room done. rw (found-as-made make mode r (ltc.done-acceptable mode r start run (done .0)) (done .1)) at
+          (ltc.done-reads mode r make start run (done .0));
+      read-writes =
+          λ mode r start run word room reads. (let written = ltc.read-writes mode r make start run word reads room in
+          ((written .0, made-as-found make mode r word reads), written .1));
+      sized = λ mode r word reads. ltc.long mode word (ltc.read-clear mode r make word reads .0);
       taken =
-          λ mode r word reads. (let again = ltc.written-of-read mode r word reads in
-          (acceptable-exactly mode r .0 (again .0 .0), again .0 .1));
-      elementsOf = wordOf;
-      reads = λ mode r ok. ltc.read-of-written mode r (acceptable-exactly mode r .1 (ok .0), ok .1);
+          λ mode r word reads. (let again = ltc.written-of-read mode r make word reads in
+          ((acceptable-exactly mode r .0 (again .0 .0), again .0 .1), made-as-found make mode r word reads));
+      elementsOf = λ mode r. wordOf mode r make;
+      reads =
+          λ mode r ok. (let able : ltc.Acceptable mode r = (acceptable-exactly mode r .1 (ok .0 .0), ok .0 .1) in
+          rw (found-as-made make mode r able (ok .1)) at (ltc.read-of-written mode r able make));
     }
 
 interval-laws : Laws interval
@@ -138,9 +159,14 @@ ancillary-laws =
     }
 
 -- "Words on the linear track, vertical interval lines and ancillary packets .. read or written". A write is done exactly where there is
--- room, the record is acceptable, and what else the carrier asks for holds. Shut out: a writer that refuses each record, one that is done without room.
-pub linear-accepts : Accepting linear
-linear-accepts = accepting linear linear-laws
+-- room, the record is acceptable, and what else the carrier asks for holds; on the linear track, whichever is made. Shut out: a writer that refuses each record,
+-- one that is done without room.
+pub linear-accepts : (make : Found) → Accepting (linear make)
+linear-accepts make mode r start run =
+    let exactly = accepting (only (FoundAsMade Corrected) (linear Corrected)) (linear-laws Corrected) mode r start run in (
+      λ written. (let taken = exactly .0 (written, tt) in (taken .0, taken .1 .0)),
+      λ ok. exactly .1 (ok .0, (ok .1, tt)) .0,
+    )
 
 pub interval-accepts : Accepting interval
 interval-accepts = accepting interval interval-laws
@@ -148,9 +174,18 @@ interval-accepts = accepting interval interval-laws
 pub ancillary-accepts : Accepting ancillary
 ancillary-accepts = accepting ancillary ancillary-laws
 
--- Some elements read as a content exactly where it is taken. Shut out: a reader that refuses each word, one that reports one fixed address.
-pub linear-reads : Reading linear
-linear-reads = reading linear linear-laws
+-- Document 02, A1: "Reading back a written word gives its record", whichever was made. Shut out: uncorrected words written with the polarity bit set, which 5
+-- refuses or which are found corrected.
+pub linear-reads-back :
+    (make : Found) (mode : ℕ) (r : Record) (start : ℕ) (run : List ℕ) → linear make .Writes mode r start run
+    → (found : Found) × linear found .Reads mode (take 80 (drop start (linear make .leaves mode r start run))) r
+linear-reads-back make mode r start run done = (foundIn (wordOf mode r make), ltc.done-reads mode r make start run done)
+
+-- Some elements read as a content exactly where it is taken; as a record and what was found, where a word of it can be found so: as uncorrected, where its
+-- word with the polarity bit 0 has odd zeros. Shut out: a reader that refuses each word, or each uncorrected word; one that reports one fixed address; one that
+-- tells what was found the other way round, or always corrected.
+pub linear-reads : (found : Found) → Reading (only (FoundAsMade found) (linear found))
+linear-reads found = reading (only (FoundAsMade found) (linear found)) (linear-laws found)
 
 pub interval-reads : Reading interval
 interval-reads = reading interval interval-laws
@@ -158,9 +193,10 @@ interval-reads = reading interval interval-laws
 pub ancillary-reads : Reading ancillary
 ancillary-reads = reading ancillary ancillary-laws
 
--- And what is read and what is written match one to one. Shut out, with the above: a writer that writes nothing, or touches another element.
-pub linear-matches : Matches linear
-linear-matches = matches linear linear-laws
+-- And what is read and what is written match one to one. On the linear track: "a word read and written again by what was found is the same". Shut out, with the
+-- above: a writer that writes nothing, or touches another element; corrected words written with the polarity bit clear.
+pub linear-matches : (found : Found) → Matches (only (FoundAsMade found) (linear found))
+linear-matches found = matches (only (FoundAsMade found) (linear found)) (linear-laws found)
 
 pub interval-matches : Matches interval
 interval-matches = matches interval interval-laws

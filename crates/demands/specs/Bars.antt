@@ -19,6 +19,7 @@ use Rattle.clock.specs.declared.types.Span.the-variants.{Frames, Refused as Unm
 use Rattle.rates.specs.Face.{showing}
 use Rattle.record.specs.declared.types.Record.{Record}
 use Rattle.modes.specs.Calls.{numberIn, addressIn, fieldsIn, spanIn}
+use Rattle.polarity.specs.declared.types.Found.the-variants.{Corrected}
 use Rattle.ltc.specs.Calls as ltc
 use Rattle.vitc.specs.Calls as vitc
 use Rattle.atc.specs.Calls as atc
@@ -75,9 +76,9 @@ theRecord =
       groups = record { group1 = 0; group2 = 0; group3 = 0; group4 = 0; group5 = 0; group6 = 0; group7 = 0; group8 = 0 };
     }
 
--- what a write of it leaves in a lent run of zeros: as LTC, on VITC, as ATC type 1, second byte 0
+-- what a write of it leaves in a lent run of zeros: as LTC, corrected, on VITC, as ATC type 1, second byte 0
 abbrev asLtc : List ℕ
-asLtc = ltc.runOf 2 theRecord 0 (replicate 80 0)
+asLtc = ltc.runOf 2 theRecord Corrected 0 (replicate 80 0)
 
 abbrev onVitc : List ℕ
 onVitc = vitc.runOf 2 theRecord 0 (replicate 90 0)

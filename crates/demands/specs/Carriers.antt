@@ -3,6 +3,7 @@
 -- Assumes nothing.
 use Prim.Native.Nat.{ℕ, _+_, _<_, _≤_}
 use mathlib.Core.Path.{_≡_}
+use mathlib.Core.Bool.{true}
 use mathlib.Core.List.{List}
 use mathlib.Core.Logic.{_↔_, _⊎_}
 use lib.ListN.{length}
@@ -11,6 +12,10 @@ use Rattle.runs.specs.Run.{placed}
 use Rattle.rates.specs.declared.types.Flag.the-variants.{No}
 use Rattle.record.specs.declared.types.Record.{Record}
 use Rattle.record.specs.declared.types.Unpacked.the-variants.{Holds}
+use Rattle.polarity.specs.declared.types.Found.{Found}
+use Rattle.polarity.specs.declared.types.Found.the-variants.{Corrected, Uncorrected}
+use Rattle.polarity.specs.declared.types.Word.the-variants.{Holds as Heard}
+use Rattle.polarity.specs.Word.{oddZeros, wordOf}
 use Rattle.ltc.specs.Calls as ltc
 use Rattle.vitc.specs.Calls as vitc
 use Rattle.atc.specs.declared.types.Contents.{Contents}
@@ -29,18 +34,24 @@ pub record Carrier (Content : Type 0) : Type 1 where
   pub leaves : ℕ → Content → ℕ → List ℕ → List ℕ
   pub Reads : ℕ → List ℕ → Content → Type 0
 
--- 80 bits of a linear track: `ltc::write` and `ltc::read`. The record's mark is no
-abbrev pub linear : Carrier Record
-linear =
+-- 80 bits of a linear track, made and found corrected or uncorrected: `ltc::write` and `ltc::read`. The record's mark is no
+abbrev pub linear : Found → Carrier Record
+linear make =
     record {
       size = 80;
       Given = λ r. Unit {0};
       Accepts = λ mode r. Acceptable mode r × (r .flags .mark ≡ No);
       Writes = λ mode r start run. ltc.writtenOf mode r start run ≡ Done;
       Refuses = λ mode r start run number. ltc.writtenOf mode r start run ≡ Refused number;
-      leaves = ltc.runOf;
-      Reads = λ mode word r. ltc.readOf mode word ≡ Holds r;
+      leaves = λ mode r. ltc.runOf mode r make;
+      Reads = λ mode word r. ltc.readOf mode word ≡ Heard r make;
     }
+
+-- Where a word is found as it was made: a corrected one always; an uncorrected one, whose polarity bit is 0, only where its zeros are odd. Where they happen to be
+-- even it is the corrected word too, and is read as that.
+abbrev pub FoundAsMade : Found → ℕ → Record → Type 0
+FoundAsMade Corrected mode r = Unit {0}
+FoundAsMade Uncorrected mode r = oddZeros (wordOf mode r Uncorrected) ≡ true
 
 -- 90 bits of a vertical interval line: `vitc::write` and `vitc::read`
 abbrev pub interval : Carrier Record
@@ -66,6 +77,19 @@ ancillary =
       Refuses = λ mode c start run number. atc.writtenOf mode (c .«record») (c .«payload_type») start run ≡ Refused number;
       leaves = λ mode c. atc.runOf mode (c .«record») (c .«payload_type») (c .second);
       Reads = λ mode words c. atc.readOf mode words ≡ Carries c;
+    }
+
+-- the same carrier, asked of some contents only
+abbrev pub only : {Content : Type 0} → (ℕ → Content → Type 0) → Carrier Content → Carrier Content
+only Some carrier =
+    record {
+      size = carrier .size;
+      Given = carrier .Given;
+      Accepts = λ mode c. carrier .Accepts mode c × Some mode c;
+      Writes = λ mode c start run. carrier .Writes mode c start run × Some mode c;
+      Refuses = carrier .Refuses;
+      leaves = carrier .leaves;
+      Reads = carrier .Reads;
     }
 
 module _ {Content : Type 0} (carrier : Carrier Content) where

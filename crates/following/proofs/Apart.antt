@@ -13,9 +13,10 @@ use Rattle.bits.specs.Bits.{toBits, someAbove}
 use Rattle.bits.proofs.Bit.{head-within, tail-within, length-toBits}
 use Rattle.bits.proofs.Neighbours.{Each, Digit, Small, bit-at, not-both}
 use Rattle.record.specs.declared.types.Record.{Record}
-use Rattle.record.specs.declared.types.Unpacked.the-variants.{Holds}
 use Rattle.following.proofs.Digits.{digits, small-digits}
 use Rattle.modes.specs.Modes.{rateAt}
+use Rattle.polarity.specs.declared.types.Found.{Found}
+use Rattle.polarity.specs.declared.types.Word.the-variants.{Holds}
 use Rattle.polarity.specs.Word.{syncWord, wordWith, infoIn}
 use Rattle.ltc.specs.Calls.{readRefusals, readOf}
 use Rattle.trips.proofs.Words.{read-clear, whole}
@@ -50,9 +51,9 @@ module _ (info : ℕ) where
   unfolding toBits syncWord
   in-sync = (λ one other. omega arith, (λ one other. omega arith, tt))
 
-pub apart : (mode : ℕ) (r : Record) (word : List ℕ) → readOf mode word ≡ Holds r → Each (NotBoth word) gaps
+pub apart : (mode : ℕ) (r : Record) (found : Found) (word : List ℕ) → readOf mode word ≡ Holds r found → Each (NotBoth word) gaps
 unfolding someAbove
-apart mode r word e =
-    let clear = read-clear mode r word e .0 in
+apart mode r found word e =
+    let clear = read-clear mode r found word e .0 in
     let small = small-digits (rateAt mode) (infoIn word) (clear-from outside-the-clock (readRefusals mode word) clear) in
     rw (whole mode word clear) (in-digits (infoIn word) digits small refl (65 ∷ 77 ∷ []) (in-sync (infoIn word)))

@@ -30,7 +30,7 @@ use Rattle.following.proofs.Heeded.{heardAfter, heard-cut, heard-length
 
 module _ {mode : ℕ} where
   gaps-of : (word : CodeWord mode) → Each (NotBoth (word .bits)) gaps
-  gaps-of word = apart mode (word .says) (word .bits) (word .accepted)
+  gaps-of word = apart mode (word .says) (word .found) (word .bits) (word .accepted)
 
   -- after a whole word, each word from its first bit on
   later : (past : List ℕ) (before : CodeWord mode) (words : List (CodeWord mode)) → heardAfter mode (past ++ before .bits) (endToEnd words) ≡ eachAsItself words

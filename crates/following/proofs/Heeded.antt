@@ -22,7 +22,7 @@ use Rattle.reader.specs.declared.types.Heard.{Heard}
 use Rattle.reader.specs.declared.types.Stepped.{Stepped}
 use Rattle.reader.specs.declared.types.Heard.the-variants.{Nothing, Accepted}
 use Rattle.register.specs.Held.{heldBits, latest, push, readerWith}
-use Rattle.reader.specs.Steps.{told, heardIn, steppedOf}
+use Rattle.reader.specs.Steps.{reporting, told, heardIn, steppedOf}
 use Rattle.following.specs.Reach.{answers}
 use Rattle.following.specs.Following.{CodeWord}
 use Rattle.reader.specs.Feeding.{Passing}
@@ -70,7 +70,7 @@ answers-after (bit ∷ bits) r past p holds all =
 -- what acceptance says of a code word
 module _ {mode : ℕ} (word : CodeWord mode) where
   clear : Clear (readRefusals mode (word .bits))
-  clear = read-clear mode (word .says) (word .bits) (word .accepted) .0
+  clear = read-clear mode (word .says) (word .found) (word .bits) (word .accepted) .0
 
   pub word-long : length (word .bits) ≡ 80
   word-long = long mode (word .bits) clear
@@ -79,7 +79,7 @@ module _ {mode : ℕ} (word : CodeWord mode) where
   word-clean = clear-at element-too-high (readRefusals mode (word .bits)) clear
 
   -- held whole, it is heard as itself
-  pub heard-whole : heardIn mode (word .bits) ≡ Accepted (word .says)
+  pub heard-whole : heardIn mode (word .bits) ≡ Accepted (reporting (word .says) (word .found))
   unfolding heardIn
   heard-whole =
       let synced : same (drop 64 (word .bits)) syncWord ≡ true = not-false _ (clear-at wrong-sync (readRefusals mode (word .bits)) clear) in
@@ -97,7 +97,7 @@ module _
 
   reports :
       (xs : List ℕ) (y : ℕ) (ys : List ℕ) → word .bits ≡ xs ++ (y ∷ ys) → from ≤ length xs
-      → heardAfter mode (past ++ xs) (y ∷ ys) ≡ replicate (length ys) Nothing ++ (Accepted (word .says) ∷ [])
+      → heardAfter mode (past ++ xs) (y ∷ ys) ≡ replicate (length ys) Nothing ++ (Accepted (reporting (word .says) (word .found)) ∷ [])
   unfolding heardAfter
   reports xs y [] parts h =
       rw (append-assoc past xs (y ∷ []), ← parts, last-80) (ap (λ (heard : Heard). heard ∷ []) (heard-whole word))
@@ -109,7 +109,7 @@ module _
       rw (append-assoc past xs (y ∷ []))
       (ap₂ (λ (heard : Heard) (rest : List Heard). heard ∷ rest) silent (reports (xs ++ (y ∷ [])) z ys more (omega arith)))
 
-  pub heeded : from < 80 → heardAfter mode (past ++ take from (word .bits)) (drop from (word .bits)) ≡ replicate (79 - from) Nothing ++ (Accepted (word .says) ∷ [])
+  pub heeded : from < 80 → heardAfter mode (past ++ take from (word .bits)) (drop from (word .bits)) ≡ replicate (79 - from) Nothing ++ (Accepted (reporting (word .says) (word .found)) ∷ [])
   heeded h =
       let long = word-long word in
       let bits = word .bits in

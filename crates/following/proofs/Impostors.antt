@@ -6,12 +6,22 @@ use mathlib.Core.Bool.{false}
 use mathlib.Core.List.{List, [], _∷_, map}
 use native.Mathlib.Omega.{arith}
 use lib.ListN.{getD, drop}
-use Rattle.record.specs.Record.{recordOf}
-use Rattle.modes.specs.Modes.{unknown}
+use Rattle.bits.specs.Bits.{value, toBits, someAbove, howMany}
+use Rattle.runs.specs.Run.{same}
+use Rattle.rates.specs.declared.types.Flag.the-variants.{No}
+use Rattle.record.specs.declared.types.Record.{Record}
+use Rattle.record.specs.Record.{recordOf, marked}
+use Rattle.modes.specs.Modes.{unknown, rateAt}
+use Rattle.modes.specs.Calls.{recordIn}
+use Rattle.polarity.specs.declared.types.Found.{Found}
+use Rattle.polarity.specs.declared.types.Found.the-variants.{Corrected, Uncorrected}
+use Rattle.polarity.specs.Word.{syncWord, wordWith, oddZeros}
+use Rattle.ltc.specs.Calls.{readOf}
 use Rattle.register.specs.declared.types.Reader.{Reader}
 use Rattle.reader.specs.declared.types.Heard.{Heard}
 use Rattle.reader.specs.declared.types.Heard.the-variants.{Nothing, Accepted, Refused}
 use Rattle.register.specs.Held.{freshOf}
+use Rattle.reader.specs.Steps.{reporting}
 use Rattle.following.specs.Reach.{fed, answers, Reached}
 use Rattle.following.specs.Following.{CodeWord, endToEnd, eachAsItself, settled, Follows}
 use Rattle.following.proofs.Demand3.{demand-3}
@@ -43,7 +53,7 @@ pub no-choice :
 no-choice player follows reader reached known words = follows reader reached known words ∙ sym (demand-3 reader reached known words)
 
 -- a player who changes what the reader says follows only where each accepted word's report is passed on as it is
-pub honest : (lie : Heard → Heard) → Follows (relaying lie) → (mode : ℕ) → unknown mode ≡ false → (word : CodeWord mode) → lie (Accepted (word .says)) ≡ Accepted (word .says)
+pub honest : (lie : Heard → Heard) → Follows (relaying lie) → (mode : ℕ) → unknown mode ≡ false → (word : CodeWord mode) → lie (Accepted (reporting (word .says) (word .found))) ≡ Accepted (reporting (word .says) (word .found))
 unfolding eachAsItself
 honest lie follows mode known word =
     let reader = freshOf mode in
@@ -55,7 +65,7 @@ honest lie follows mode known word =
 
 frameIn : Heard → ℕ
 frameIn Nothing = 0
-frameIn (Accepted r) = r .address .frames .0
+frameIn (Accepted r) = r .«record» .address .frames .0
 frameIn (Refused n) = 0
 
 -- with nothing for each report, a number, or one fixed record: one that never reports, that refuses each word, that reports one fixed address
@@ -66,3 +76,24 @@ no-impostor other follows =
     let another = honest (always other) follows 2 refl seven in
     let same : _≡_ {A = ℕ} 0 7 = ap frameIn (sym one ∙ another) in
     omega arith
+
+-- something else for each uncorrected word
+abbrev pub uncorrectedAs : (Record → Heard) → Heard → Heard
+uncorrectedAs other Nothing = Nothing
+uncorrectedAs other (Accepted r) = byFound (r .found)
+  where
+    byFound : Found → Heard
+    byFound Corrected = Accepted r
+    byFound Uncorrected = other (r .«record»)
+uncorrectedAs other (Refused n) = Refused n
+
+-- 00:00:00:00 at 30 frames, groups and flags 0, the polarity bit left 0
+unfoldable unset : CodeWord 2
+unfolding readOf recordOf oddZeros howMany toBits value someAbove same syncWord unknown rateAt
+unset = record { bits = wordWith 0; says = marked No (recordIn 2 0); found = Uncorrected; accepted = refl }
+
+-- with nothing for it, with 5, or with its record as a corrected word's: whatever is not its report
+pub no-impostor-of-uncorrected :
+    (other : Record → Heard) → ((r : Record) → other r ≡ Accepted (reporting r Uncorrected) → ⊥) → Follows (relaying (uncorrectedAs other)) → ⊥
+unfolding unset unknown
+no-impostor-of-uncorrected other unlike follows = unlike (unset .says) (honest (uncorrectedAs other) follows 2 refl unset)

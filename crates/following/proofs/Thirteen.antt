@@ -12,12 +12,12 @@ use Rattle.refusals.specs.Table.{state-not-reached}
 use Rattle.refusals.proofs.Answered.{carried, given-below}
 use Rattle.runs.specs.Run.{same}
 use Rattle.rates.specs.declared.types.Flag.the-variants.{No}
-use Rattle.record.specs.declared.types.Unpacked.{Unpacked}
-use Rattle.record.specs.declared.types.Unpacked.the-variants.{Holds as Read, Refused as Unheld}
 use Rattle.record.specs.Record.{marked}
 use Rattle.modes.specs.Modes.{unknown}
 use Rattle.modes.specs.Calls.{recordIn}
-use Rattle.polarity.specs.Word.{syncWord, infoIn}
+use Rattle.polarity.specs.declared.types.Word.{Word}
+use Rattle.polarity.specs.declared.types.Word.the-variants.{Holds as Read, Refused as Unheld}
+use Rattle.polarity.specs.Word.{syncWord, infoIn, foundIn}
 use Rattle.ltc.specs.Calls.{readRefusals, readOf}
 use Rattle.register.specs.declared.types.Reader.{Reader}
 use Rattle.reader.specs.declared.types.Heard.{Heard}
@@ -40,7 +40,7 @@ number (Refused n) = n
 word-below : (mode : ℕ) (bits : List ℕ) → number (told (readOf mode bits)) < 13
 unfolding readOf
 word-below mode bits =
-    rw (carried (λ (u : Unpacked). number (told u)) Unheld (Read (marked No (recordIn mode (infoIn bits)))) (readRefusals mode bits))
+    rw (carried (λ (w : Word). number (told w)) Unheld (Read (marked No (recordIn mode (infoIn bits))) (foundIn bits)) (readRefusals mode bits))
     (given-below 13 (omega arith) (readRefusals mode bits) (omega arith))
 
 heard-below : (mode : ℕ) (bits : List ℕ) → number (heardIn mode bits) < 13

@@ -14,13 +14,14 @@ use Rattle.rates.specs.declared.types.Flag.the-variants.{No}
 use Rattle.record.specs.Record.{recordOf, marked}
 use Rattle.modes.specs.Modes.{unknown, rateAt}
 use Rattle.modes.specs.Calls.{recordIn}
+use Rattle.polarity.specs.declared.types.Found.the-variants.{Corrected}
 use Rattle.polarity.specs.Word.{syncWord, wordWith, oddZeros}
 use Rattle.ltc.specs.Calls.{readOf}
 use Rattle.register.specs.declared.types.Reader.{Reader}
 use Rattle.reader.specs.declared.types.Heard.{Heard}
 use Rattle.reader.specs.declared.types.Heard.the-variants.{Nothing, Accepted}
 use Rattle.register.specs.Held.{freshOf, readerWith, unreached}
-use Rattle.reader.specs.Steps.{heardIn, steppedOf}
+use Rattle.reader.specs.Steps.{reporting, heardIn, steppedOf}
 use Rattle.reader.specs.Blocks.{isAnswer}
 use Rattle.following.specs.Reach.{fed, answers, Reached}
 use Rattle.following.specs.Following.{CodeWord, endToEnd, eachAsItself, settled, FollowsAfter}
@@ -28,12 +29,12 @@ use Rattle.following.specs.Following.{CodeWord, endToEnd, eachAsItself, 
 -- 00:00:00:00 at 30 frames, groups and flags 0: the polarity bit is set
 unfoldable pub midnight : CodeWord 2
 unfolding readOf recordOf oddZeros howMany toBits value someAbove same syncWord unknown rateAt
-midnight = record { bits = wordWith (2 ^ 27); says = marked No (recordIn 2 (2 ^ 27)); accepted = refl }
+midnight = record { bits = wordWith (2 ^ 27); says = marked No (recordIn 2 (2 ^ 27)); found = Corrected; accepted = refl }
 
 -- 00:00:00:07 and group 1 set to 1: it begins with 1, 1, 1, 0, 1, as the sync word ends
 unfoldable pub seven : CodeWord 2
 unfolding readOf recordOf oddZeros howMany toBits value someAbove same syncWord unknown rateAt
-seven = record { bits = wordWith (2 ^ 27 + 2 ^ 4 + 7); says = marked No (recordIn 2 (2 ^ 27 + 2 ^ 4 + 7)); accepted = refl }
+seven = record { bits = wordWith (2 ^ 27 + 2 ^ 4 + 7); says = marked No (recordIn 2 (2 ^ 27 + 2 ^ 4 + 7)); found = Corrected; accepted = refl }
 
 brokenOff : List ℕ
 brokenOff = take 75 (wordWith (2 ^ 27))
@@ -45,7 +46,7 @@ waiting-reached : Reached waiting
 unfolding waiting brokenOff fed steppedOf readerWith unreached toBits value howMany syncWord unknown rateAt
 waiting-reached = record { elements = brokenOff; brought = refl }
 
-false-report : getD (answers waiting (endToEnd (seven ∷ []))) 4 Nothing ≡ Accepted (midnight .says)
+false-report : getD (answers waiting (endToEnd (seven ∷ []))) 4 Nothing ≡ Accepted (reporting (midnight .says) (midnight .found))
 unfolding waiting brokenOff fed answers endToEnd steppedOf heardIn readerWith unreached toBits value howMany syncWord seven midnight readOf recordOf oddZeros someAbove same unknown rateAt
 false-report = refl
 

@@ -9,19 +9,22 @@ use mathlib.Core.Bool.{false}
 use mathlib.Core.List.{List, [], _∷_, _++_}
 use lib.ListN.{drop, replicate}
 use Rattle.record.specs.declared.types.Record.{Record}
-use Rattle.record.specs.declared.types.Unpacked.the-variants.{Holds}
 use Rattle.modes.specs.Modes.{unknown}
+use Rattle.polarity.specs.declared.types.Found.{Found}
+use Rattle.polarity.specs.declared.types.Word.the-variants.{Holds}
 use Rattle.ltc.specs.Calls.{readOf}
 use Rattle.register.specs.declared.types.Reader.{Reader}
 use Rattle.reader.specs.declared.types.Heard.{Heard}
 use Rattle.reader.specs.declared.types.Heard.the-variants.{Nothing, Accepted}
+use Rattle.reader.specs.Steps.{reporting}
 use Rattle.following.specs.Reach.{Reached}
 
--- a code word that is accepted in a mode, and the record that it is read as
+-- a code word that is accepted in a mode, the record that it is read as, and what is found in it; "Demand 3 then speaks of all words accepted by the new rule"
 pub record CodeWord (mode : ℕ) : Type 0 where
   pub bits : List ℕ
   pub says : Record
-  pub accepted : readOf mode bits ≡ Holds says
+  pub found : Found
+  pub accepted : readOf mode bits ≡ Holds says found
 
 module _ {mode : ℕ} where
   -- "feed it, unchanged and end to end, code words"
@@ -32,7 +35,7 @@ module _ {mode : ℕ} where
   -- "Each word is reported, as itself, at its 80th bit", with "no report and no complaint anywhere else"
   unfoldable pub eachAsItself : List (CodeWord mode) → List Heard
   eachAsItself [] = []
-  eachAsItself (word ∷ words) = (replicate 79 Nothing ++ (Accepted (word .says) ∷ [])) ++ eachAsItself words
+  eachAsItself (word ∷ words) = (replicate 79 Nothing ++ (Accepted (reporting (word .says) (word .found)) ∷ [])) ++ eachAsItself words
 
 -- "After the fifth bit of the first word"
 abbrev pub settled : ℕ

@@ -28,7 +28,7 @@ refusedText number = (space ∷ theWordRefused) ++ ((space ∷ decimal number) +
 -- where nothing is answered there is no line
 unfoldable pub lineOf : ℕ → Heard → List ℕ
 lineOf bits Nothing = []
-lineOf bits (Accepted r) = decimal bits ++ acceptedText r
+lineOf bits (Accepted report) = decimal bits ++ acceptedText (report .«record»)
 lineOf bits (Refused number) = decimal bits ++ refusedText number
 
 -- the last line: the word end and the bits so far

@@ -39,7 +39,8 @@ pub fn line(bits: u64, heard: Heard, text: &mut [u8; ROOM]) -> usize
 {
     match heard {
         Heard::Nothing => 0,
-        Heard::Accepted(r) => {
+        Heard::Accepted(report) => {
+            let r = report.record;
             let at = append_decimal(bits, text, 0);
             lay_accepted(r, text, at)
         }

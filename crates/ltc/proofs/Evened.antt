@@ -27,10 +27,10 @@ marked-same r mark e = λ i. marked (sym e i) r
 pub plain : (mode : ℕ) (r : Record) → r .flags .mark ≡ No → informationIn mode (marked No r) ≡ informationIn mode r
 plain mode r unset = ap (informationIn mode) (marked-same r No unset)
 
-module _ (mode : ℕ) (r : Record) (fits : Writable (r .address) (r .groups)) (unset : r .flags .mark ≡ No) where
+module _ (mode : ℕ) (r : Record) (unset : r .flags .mark ≡ No) where
   -- setting the polarity bit adds the value of its place, and leaves 64 bits
   pub set-adds : informationIn mode (marked Yes r) ≡ informationIn mode r + 2 ^ places (rateAt mode) .mark
   set-adds = mark-adds (rateAt mode) r ∙ ap (λ (n : ℕ). n + 2 ^ places (rateAt mode) .mark) (plain mode r unset)
 
-  pub set-below : informationIn mode r + 2 ^ places (rateAt mode) .mark < 2 ^ 64
-  set-below = rw (← set-adds) (info-below (rateAt mode) (marked Yes r) fits)
+  pub set-below : Writable (r .address) (r .groups) → informationIn mode r + 2 ^ places (rateAt mode) .mark < 2 ^ 64
+  set-below fits = rw (← set-adds) (info-below (rateAt mode) (marked Yes r) fits)

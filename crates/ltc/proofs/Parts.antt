@@ -4,7 +4,7 @@ use Prim.Native.Nat.{ℕ, _^_, _<_}
 use mathlib.Core.Path.{_≡_, refl, ap, _∙_}
 use mathlib.Core.Bool.{true, false}
 use lib.Dec.{eqb}
-use lib.ListN.{length, drop, length-append}
+use lib.ListN.{length, drop}
 use lib.Seq.{take-at, drop-at}
 use borrow.Author.Tests.{eq-eqb}
 use Rattle.bits.specs.Bits.{value, toBits, someAbove}
@@ -15,14 +15,11 @@ use Rattle.runs.proofs.Same.{same-itself}
 use Rattle.polarity.specs.Word.{syncWord, wordWith, infoIn}
 use Rattle.polarity.specs.Heard.{heardOf}
 use Rattle.ltc.specs.Calls.{readOf}
+use Rattle.ltc.proofs.Words.{length-with}
 
 sync-clean : someAbove 1 syncWord ≡ false
 unfolding someAbove syncWord
 sync-clean = refl
-
-length-word : (info : ℕ) → length (wordWith info) ≡ 80
-unfolding syncWord
-length-word info = length-append (toBits 64 info) syncWord ∙ rw (length-toBits 64 info)
 
 module _ (info : ℕ) (low : info < 2 ^ 64) where
   info-of-word : infoIn (wordWith info) ≡ info
@@ -35,7 +32,7 @@ module _ (info : ℕ) (low : info < 2 ^ 64) where
   pub read-is-heard : (mode : ℕ) → readOf mode (wordWith info) ≡ heardOf mode info
   unfolding readOf heardOf
   read-is-heard mode =
-      let long : eqb (length (wordWith info)) 80 ≡ true = eq-eqb _ 80 (length-word info) in
+      let long : eqb (length (wordWith info)) 80 ≡ true = eq-eqb _ 80 (length-with info) in
       let clean : someAbove 1 (wordWith info) ≡ false = within-append 1 (toBits 64 info) syncWord (bits-of-number 64 info) sync-clean in
       let seen : same (drop 64 (wordWith info)) syncWord ≡ true = rw sync-of-word (same-itself syncWord) in
       rw (long, clean, seen, info-of-word)

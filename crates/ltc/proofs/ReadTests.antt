@@ -17,9 +17,9 @@ use Rattle.runs.specs.Gather.{gatheredOf}
 use Rattle.runs.specs.Run.{same}
 use Rattle.runs.proofs.types.Gathered.{the-type}
 use Rattle.runs.proofs.Same.{same-itself, gathered-is, not-gathered}
-use Rattle.record.specs.declared.types.Unpacked.{Unpacked}
-use Rattle.record.specs.declared.types.Unpacked.the-variants.{Refused as Unheld}
 use Rattle.modes.specs.Modes.{unknown}
+use Rattle.polarity.specs.declared.types.Word.{Word}
+use Rattle.polarity.specs.declared.types.Word.the-variants.{Refused}
 use Rattle.polarity.specs.Word.{syncWord, infoIn, wordWith, oddZeros}
 use Rattle.polarity.specs.Heard.{heardOf}
 use Rattle.ltc.specs.Calls.{readOf}
@@ -34,12 +34,12 @@ no-number answer (inl e) n is = let first = ap (tagOf the-type) is in omega arit
 no-number answer (inr e) n is = let first = ap (tagOf the-type) is in omega arith
 
 module _ (mode : ℕ) (word : List ℕ) where
-  pub wrong-size : (length word ≡ 80 → ⊥) → Unheld 1 ≡ readOf mode word
+  pub wrong-size : (length word ≡ 80 → ⊥) → Refused 1 ≡ readOf mode word
   unfolding readOf
   wrong-size other = rw (ne-eqb (length word) 80 other)
 
   module _ (long : length word ≡ 80) where
-    pub no-mode : (past : Bool) → past ≡ unknown mode → past ≡ true → Unheld 2 ≡ readOf mode word
+    pub no-mode : (past : Bool) → past ≡ unknown mode → past ≡ true → Refused 2 ≡ readOf mode word
     unfolding readOf
     no-mode past asked e = rw (eq-eqb (length word) 80 long, ← asked, e)
 
@@ -52,13 +52,13 @@ module _ (mode : ℕ) (word : List ℕ) where
       high-part : take 16 (drop 64 word) ≡ drop 64 word
       high-part = take-all 16 (drop 64 word) (omega (arith, high-length word long))
 
-      pub no-bit-low : Another low → Unheld 3 ≡ readOf mode word
+      pub no-bit-low : Another low → Refused 3 ≡ readOf mode word
       unfolding readOf
       no-bit-low e =
           let above = not-gathered (take 64 word) (omega (arith, low-length word long)) (λ n is. no-number low e n (first ∙ is)) in
           rw (eq-eqb (length word) 80 long, known, above-in-parts word long, above)
 
-      pub no-bit-high : Another high → Unheld 3 ≡ readOf mode word
+      pub no-bit-high : Another high → Refused 3 ≡ readOf mode word
       unfolding readOf
       no-bit-high e =
           let above = not-gathered (drop 64 word) (omega (arith, high-length word long)) (λ n is. no-number high e n (last ∙ ap gatheredOf high-part ∙ is)) in
@@ -74,7 +74,7 @@ module _ (mode : ℕ) (word : List ℕ) where
         clean : someAbove 1 word ≡ false
         clean = above-in-parts word long ∙ rw (low-is .0, high-is .0)
 
-        pub another-sync : (sync ≡ 0xbffc → ⊥) → Unheld 4 ≡ readOf mode word
+        pub another-sync : (sync ≡ 0xbffc → ⊥) → Refused 4 ≡ readOf mode word
         unfolding readOf
         another-sync other =
             rw (
@@ -84,9 +84,9 @@ module _ (mode : ℕ) (word : List ℕ) where
               other-sync word long (low-is .0) (high-is .0) (λ e. other (high-is .1 ∙ e)),
             )
 
-        pub heard : sync ≡ 0xbffc → (r : Unpacked) → r ≡ heardOf mode info → r ≡ readOf mode word
+        pub heard : sync ≡ 0xbffc → (w : Word) → w ≡ heardOf mode info → w ≡ readOf mode word
         unfolding readOf heardOf
-        heard e r told =
+        heard e w told =
             let whole = word-is word long (low-is .0) (high-is .0) (sym (high-is .1) ∙ e) in
             let seen : same (drop 64 word) syncWord ≡ true =
             rw (sync-by-number word long (low-is .0) (high-is .0) (sym (high-is .1) ∙ e)) (same-itself syncWord) in

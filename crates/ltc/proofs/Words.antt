@@ -10,11 +10,16 @@ use borrow.Rule.Slice.PartMut.{midOf, postOf, putMid}
 use Rattle.bits.specs.Bits.{toBits}
 use Rattle.bits.proofs.Bit.{length-toBits}
 use Rattle.record.specs.declared.types.Record.{Record}
-use Rattle.polarity.specs.Word.{syncWord, wordWith, correctedOf, wordOf}
+use Rattle.polarity.specs.declared.types.Found.{Found}
+use Rattle.polarity.specs.Word.{syncWord, wordWith, wordOf}
 
-pub word-length : (mode : ℕ) (r : Record) → length (wordOf mode r) ≡ 80
-unfolding wordOf syncWord
-word-length mode r = length-append (toBits 64 (correctedOf mode r)) syncWord ∙ rw (length-toBits 64 (correctedOf mode r))
+pub length-with : (info : ℕ) → length (wordWith info) ≡ 80
+unfolding syncWord
+length-with info = length-append (toBits 64 info) syncWord ∙ rw (length-toBits 64 info)
+
+pub word-length : (mode : ℕ) (r : Record) (make : Found) → length (wordOf mode r make) ≡ 80
+unfolding wordOf
+word-length mode r make = length-with _
 
 -- the low 64 elements are stored, and then the sync word after them
 module _ (info : ℕ) (word low high : List ℕ) (long : length word ≡ 80) (stored : low ≡ toBits (length (midOf 0 64 word)) info) where

@@ -1,7 +1,7 @@
 -- What each call on linear words answers: its refusals in the table's order, and then what is accepted.
 -- Assumes nothing.
 use Prim.Native.Nat.{ℕ}
-use mathlib.Core.Bool.{not}
+use mathlib.Core.Bool.{not, _&&_}
 use mathlib.Core.List.{List, [], _∷_, _++_}
 use lib.Dec.{eqb}
 use lib.ListN.{length, drop}
@@ -12,26 +12,29 @@ use Rattle.runs.specs.Run.{noRoom, writtenBy, runAfter, same}
 use Rattle.rates.specs.declared.types.Flag.the-variants.{No}
 use Rattle.rates.specs.Rates.{isYes}
 use Rattle.record.specs.declared.types.Record.{Record}
-use Rattle.record.specs.declared.types.Unpacked.{Unpacked}
-use Rattle.record.specs.declared.types.Unpacked.the-variants.{Holds, Refused as Unheld}
 use Rattle.record.specs.Record.{marked}
 use Rattle.runs.specs.declared.types.Written.{Written}
 use Rattle.modes.specs.Calls.{recordIn, bitsRefusalsIn, writeRefusalsIn}
 use Rattle.modes.specs.Modes.{unknown, withMode}
-use Rattle.polarity.specs.Word.{syncWord, infoIn, oddZeros, wordOf}
+use Rattle.polarity.specs.declared.types.Found.{Found}
+use Rattle.polarity.specs.declared.types.Word.{Word}
+use Rattle.polarity.specs.declared.types.Word.the-variants.{Holds, Refused}
+use Rattle.polarity.specs.Word.{syncWord, infoIn, oddZeros, polarityBit, foundIn, wordOf}
 
--- reading: 1 not exactly 80 elements; 2 a mode that is unknown; 3 an element above 1; 4 another sync word; 5 odd zeros; then the record's
+-- reading: 1 not exactly 80 elements; 2 a mode that is unknown; 3 an element above 1; 4 another sync word; 5 "only if its zeros are odd and its polarity
+-- bit is 1"; then the record's
 abbrev pub readRefusals : ℕ → List ℕ → List Refusal
 readRefusals mode word =
     (wrong-length when not (eqb (length word) 80))
     ∷ (unknown-mode when unknown mode)
     ∷ (element-too-high when someAbove 1 word)
     ∷ (wrong-sync when not (same (drop 64 word) syncWord))
-    ∷ (wrong-check when oddZeros word)
+    ∷ (wrong-check when (oddZeros word && isYes (polarityBit mode (infoIn word))))
     ∷ bitsRefusalsIn mode (infoIn word)
 
-unfoldable pub readOf : ℕ → List ℕ → Unpacked
-readOf mode word = answer Unheld (readRefusals mode word) (Holds (marked No (recordIn mode (infoIn word))))
+-- the record with mark 0, and what was found
+unfoldable pub readOf : ℕ → List ℕ → Word
+readOf mode word = answer Refused (readRefusals mode word) (Holds (marked No (recordIn mode (infoIn word))) (foundIn word))
 
 -- writing: 2; 8, 9 and 10 of the record; 11 a mark; 12 no room for 80 elements from the start
 unfoldable pub writtenRows : ℕ → Record → ℕ → List ℕ → List Refusal
@@ -42,6 +45,6 @@ writtenRows mode r start run =
 unfoldable pub writtenOf : ℕ → Record → ℕ → List ℕ → Written
 writtenOf mode r start run = writtenBy (writtenRows mode r start run)
 
--- the lent run as a write leaves it
-unfoldable pub runOf : ℕ → Record → ℕ → List ℕ → List ℕ
-runOf mode r start run = runAfter (writtenRows mode r start run) start (wordOf mode r) run
+-- the lent run as a write leaves it that is told which to make
+unfoldable pub runOf : ℕ → Record → Found → ℕ → List ℕ → List ℕ
+runOf mode r make start run = runAfter (writtenRows mode r start run) start (wordOf mode r make) run

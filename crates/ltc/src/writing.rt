@@ -1,12 +1,12 @@
 // From a record into the middle of a lent run.
 ghost use Prim.Native.Nat.{_+_, _^_, _<_};
 ghost use mathlib.Core.Path.{_≡_};
-ghost use mathlib.Core.Bool.{cond};
 ghost use lib.ListN.{length};
 ghost use Rattle.layout.specs.Flags.{places};
-ghost use Rattle.polarity.specs.Word.{wordWith, oddZeros};
+ghost use Rattle.polarity.specs.Word.{wordWith, made};
 ghost use Rattle.ltc.specs.Calls.{writtenOf, runOf};
 use modes::Rated;
+use polarity::Found;
 use polarity::has_odd_zeros;
 use rates::Rate;
 use record::Packed;
@@ -22,19 +22,25 @@ fn store(info: u64, word: &mut [u8])
     runs::scatter(0xbffc, &mut word[64..80]);
 }
 
-// The information bits with the polarity bit set where the zeros would else be odd.
-fn corrected(rate: Rate, plain: u64) -> u64
-    requires { ⌜ plain + 2 ^ places rate .mark < 2 ^ 64 ⌝ }
-    ensures { λ n. ⌜ n ≡ cond (oddZeros (wordWith plain)) (plain + 2 ^ places rate .mark) plain ⌝ }
+// "Writing is told which to make": of the information bits with the polarity bit 0, those that are written.
+fn made(rate: Rate, make: Found, clear: u64) -> u64
+    requires { ⌜ clear + 2 ^ places rate .mark < 2 ^ 64 ⌝ }
+    ensures { λ n. ⌜ n ≡ made make clear (clear + 2 ^ places rate .mark) ⌝ }
 {
-    if has_odd_zeros(plain) {
-        return plain + layout::mark_value(rate);
+    let set = clear + layout::mark_value(rate);
+    match make {
+        Found::Uncorrected => clear,
+        Found::Corrected => {
+            if has_odd_zeros(clear) {
+                return set;
+            }
+            clear
+        }
     }
-    plain
 }
 
-pub fn write(mode: u8, r: Record, start: usize, run: &mut [u8]) -> Written
-    ensures { λ w. ⌜ (w ≡ writtenOf mode r start (now (run .entry))) × (now (run .exit) ≡ runOf mode r start (now (run .entry))) ⌝ }
+pub fn write(mode: u8, r: Record, make: Found, start: usize, run: &mut [u8]) -> Written
+    ensures { λ w. ⌜ (w ≡ writtenOf mode r start (now (run .entry))) × (now (run .exit) ≡ runOf mode r make start (now (run .entry))) ⌝ }
 {
     let flags = r.flags;
     let mark = flags.mark;
@@ -44,14 +50,14 @@ pub fn write(mode: u8, r: Record, start: usize, run: &mut [u8]) -> Written
     let found = record::to_bits(rate, r);
     match found {
         Packed::Refused(number) => Written::Refused(number),
-        Packed::Bits(plain) => {
+        Packed::Bits(clear) => {
             if rates::is_yes(mark) {
                 return Written::Refused(refusals::MARK_SET);
             }
             if runs::lacks_room(80, start, run.len()) {
                 return Written::Refused(refusals::NO_ROOM);
             }
-            let info = corrected(rate, plain);
+            let info = made(rate, make, clear);
             let end = start + 80;
             store(info, &mut run[start..end]);
             Written::Done

@@ -1,24 +1,31 @@
--- Where the zeros are even, bits are heard as what the record says, the mark taken off.
+-- Bits that 5 does not refuse are heard as what the record says, the mark taken off, with what was found.
 -- Assumes nothing.
 use Prim.Native.Nat.{ℕ}
 use mathlib.Core.Path.{_≡_, sym}
-use mathlib.Core.Bool.{false}
+use mathlib.Core.Bool.{false, _&&_}
 use Rattle.refusals.proofs.Answered.{carried}
 use Rattle.rates.specs.declared.types.Flag.the-variants.{No}
+use Rattle.rates.specs.Rates.{isYes}
 use Rattle.record.specs.declared.types.Unpacked.{Unpacked}
-use Rattle.record.specs.declared.types.Unpacked.the-variants.{Holds, Refused as Unheld}
+use Rattle.record.specs.declared.types.Unpacked.the-variants.{Holds as Held, Refused as Unheld}
 use Rattle.record.specs.Record.{marked}
 use Rattle.modes.specs.Calls.{recordIn, bitsRefusalsIn, unpackedIn}
 use Rattle.modes.specs.Modes.{withMode}
-use Rattle.polarity.specs.Word.{wordWith, oddZeros}
+use Rattle.polarity.specs.declared.types.Found.{Found}
+use Rattle.polarity.specs.declared.types.Word.{Word}
+use Rattle.polarity.specs.declared.types.Word.the-variants.{Holds, Refused}
+use Rattle.polarity.specs.Word.{wordWith, oddZeros, polarityBit, foundIn}
 use Rattle.polarity.specs.Heard.{heardOf}
 
--- an answer with the mark taken off its record
-abbrev pub withoutMark : Unpacked → Unpacked
-withoutMark (Holds r) = Holds (marked No r)
-withoutMark (Unheld n) = Unheld n
+-- what the record says, the mark taken off, with what was found
+abbrev pub withFound : Found → Unpacked → Word
+withFound found (Held r) = Holds (marked No r) found
+withFound found (Unheld n) = Refused n
 
--- where the zeros are even, what is heard is what the record says, the mark taken off
-pub heard-is : (mode info : ℕ) → oddZeros (wordWith info) ≡ false → heardOf mode info ≡ withoutMark (unpackedIn mode info)
+-- where the zeros are not odd with the polarity bit set, bits are heard as that
+pub heard-is :
+    (mode info : ℕ) → (oddZeros (wordWith info) && isYes (polarityBit mode info)) ≡ false
+    → heardOf mode info ≡ withFound (foundIn (wordWith info)) (unpackedIn mode info)
 unfolding heardOf unpackedIn
-heard-is mode info even = rw even (sym (carried withoutMark Unheld (Holds (recordIn mode info)) (withMode mode (bitsRefusalsIn mode info))))
+heard-is mode info right =
+    rw right (sym (carried (withFound (foundIn (wordWith info))) Unheld (Held (recordIn mode info)) (withMode mode (bitsRefusalsIn mode info))))

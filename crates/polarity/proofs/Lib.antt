@@ -1,5 +1,5 @@
 -- Zeros     the zeros of a word by the language's count of ones
--- Heard     where the zeros are even, bits are heard as what the record says, the mark taken off
+-- Heard     bits that 5 does not refuse are heard as what the record says, the mark taken off, with what was found
 -- Rows      the list of refusals follows the table's order
 pub mod Zeros
 pub mod Heard

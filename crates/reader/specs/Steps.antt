@@ -9,20 +9,27 @@ use lib.ListN.{length, drop}
 use Rattle.refusals.specs.Table.{unknown-mode, element-too-high, state-not-reached}
 use Rattle.refusals.specs.Answer.{Refusal, _when_, answer}
 use Rattle.runs.specs.Run.{same}
-use Rattle.record.specs.declared.types.Unpacked.{Unpacked}
-use Rattle.record.specs.declared.types.Unpacked.the-variants.{Holds, Refused as Unheld}
+use Rattle.record.specs.declared.types.Record.{Record}
 use Rattle.modes.specs.Modes.{unknown}
+use Rattle.polarity.specs.declared.types.Found.{Found}
+use Rattle.polarity.specs.declared.types.Word.{Word}
+use Rattle.polarity.specs.declared.types.Word.the-variants.{Holds, Refused as Unheld}
 use Rattle.polarity.specs.Word.{syncWord}
 use Rattle.ltc.specs.Calls.{readOf}
 use Rattle.register.specs.declared.types.Reader.{Reader}
+use Rattle.reader.specs.declared.types.Report.{Report}
 use Rattle.reader.specs.declared.types.Heard.{Heard}
 use Rattle.reader.specs.declared.types.Heard.the-variants.{Nothing, Accepted, Refused}
 use Rattle.reader.specs.declared.types.Stepped.{Stepped}
 use Rattle.register.specs.Held.{heldBits, push, readerWith, unreached}
 
--- "The answer holds the whole record inside the accepted case"
-abbrev pub told : Unpacked → Heard
-told (Holds r) = Accepted r
+-- a record, and what was found
+abbrev pub reporting : Record → Found → Report
+reporting r found = record { «record» = r; found = found }
+
+-- "The answer holds the whole record inside the accepted case", and beside it what was found
+abbrev pub told : Word → Heard
+told (Holds r found) = Accepted (reporting r found)
 told (Unheld n) = Refused n
 
 -- what is heard in the bits that are held

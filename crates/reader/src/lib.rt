@@ -9,4 +9,5 @@ pub use stepping::block;
 pub use stepping::step;
 pub use types::Blocked;
 pub use types::Heard;
+pub use types::Report;
 pub use types::Stepped;

@@ -8,8 +8,9 @@ ghost use Rattle.reader.specs.Steps.{heardIn, steppedOf};
 ghost use Rattle.reader.specs.Blocks.{isAnswer, going, blockedOf};
 use crate::types::Blocked;
 use crate::types::Heard;
+use crate::types::Report;
 use crate::types::Stepped;
-use record::Unpacked;
+use polarity::Word;
 use register::Reader;
 use register::is_unreached;
 
@@ -49,10 +50,10 @@ fn heard(reader: Reader) -> Heard
     if reader.held < 80 {
         return Heard::Nothing;
     }
-    let found = polarity::read_info(reader.mode, reader.info);
-    match found {
-        Unpacked::Holds(held) => Heard::Accepted(held),
-        Unpacked::Refused(number) => Heard::Refused(number),
+    let word = polarity::read_info(reader.mode, reader.info);
+    match word {
+        Word::Holds(record, found) => Heard::Accepted(Report { record, found }),
+        Word::Refused(number) => Heard::Refused(number),
     }
 }
 

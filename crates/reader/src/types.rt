@@ -1,9 +1,16 @@
+use polarity::Found;
 use record::Record;
 use register::Reader;
 
+// What an accepted word is reported as: its record whole, and what was found.
+pub struct Report {
+    pub record: Record,
+    pub found: Found,
+}
+
 pub enum Heard {
     Nothing,
-    Accepted(Record),
+    Accepted(Report),
     Refused(u8),
 }
 

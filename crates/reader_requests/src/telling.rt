@@ -6,7 +6,7 @@ use answers::put;
 use answers::put_bits;
 use answers::put_digits;
 use answers::put_number;
-use answers::put_record;
+use answers::put_read;
 use answers::put_refused;
 use answers::put_text;
 use reader::Blocked;
@@ -20,7 +20,11 @@ fn put_heard(out: &mut [u8], heard: Heard) -> usize
 {
     match heard {
         Heard::Nothing => put_text(out, 0, b"nothing"),
-        Heard::Accepted(record) => put_record(out, record),
+        Heard::Accepted(report) => {
+            let record = report.record;
+            let found = report.found;
+            put_read(out, record, found)
+        }
         Heard::Refused(number) => put_refused(out, number),
     }
 }

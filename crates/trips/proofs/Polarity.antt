@@ -1,14 +1,16 @@
--- The polarity bit makes the zeros even, and only one of its two values does.
+-- A word that is made corrected has even zeros; and what is found in a word says which of the two values of its polarity bit was made.
 -- Assumes nothing.
 use Prim.Native.Nat.{ℕ, _+_, _-_, _%_, _^_, _<_}
-use mathlib.Core.Path.{_≡_, refl, sym, ap, _∙_}
-use mathlib.Core.Bool.{Bool, true, false}
+use mathlib.Core.Path.{_≡_, refl, sym, _∙_}
+use mathlib.Core.Bool.{Bool, true, false, _&&_, and-false, true≢false}
+use mathlib.Core.List.{List}
 use native.Mathlib.Omega.{arith}
 use lib.Count.{ones as counted, ones-le}
 use borrow.Author.Tests.{eqb-true, eqb-false, eq-eqb, ne-eqb}
 use Rattle.rates.specs.declared.types.Rate.{Rate}
 use Rattle.rates.specs.declared.types.Flag.{Flag}
 use Rattle.rates.specs.declared.types.Flag.the-variants.{No, Yes}
+use Rattle.rates.specs.Rates.{isYes}
 use Rattle.record.specs.declared.types.Record.{Record}
 use Rattle.layout.specs.Layout.{layout}
 use Rattle.record.specs.Record.{fieldsOf, infoOf, marked}
@@ -17,9 +19,10 @@ use Rattle.layout.proofs.Fields.{allOnes, ones-join}
 use Rattle.record.proofs.Marks.{fields-below, info-below, one-bit}
 use Rattle.modes.specs.Modes.{rateAt}
 use Rattle.modes.specs.Calls.{informationIn}
-use Rattle.polarity.specs.Word.{wordWith, oddZeros, correctedOf}
+use Rattle.polarity.specs.declared.types.Found.{Found}
+use Rattle.polarity.specs.declared.types.Found.the-variants.{Corrected, Uncorrected}
+use Rattle.polarity.specs.Word.{wordWith, oddZeros, foundIn, made}
 use Rattle.polarity.proofs.Zeros.{odd-by-count}
-use Rattle.ltc.proofs.Evened.{plain}
 
 module _ (rate : Rate) (r : Record) (fits : Writable (r .address) (r .groups)) where
   of-fields : (mark : Flag) → counted (infoOf rate (marked mark r)) ≡ allOnes (fieldsOf rate (marked mark r))
@@ -30,6 +33,14 @@ module _ (rate : Rate) (r : Record) (fits : Writable (r .address) (r .groups)) w
   pub mark-counts : counted (infoOf rate (marked Yes r)) ≡ counted (infoOf rate (marked No r)) + 1
   unfolding fieldsOf counted
   mark-counts = omega (arith, one-bit (λ place b. counted b) rate r, of-fields Yes, of-fields No)
+
+-- what is found uncorrected has odd zeros
+pub odd-found : (word : List ℕ) → foundIn word ≡ Uncorrected → oddZeros word ≡ true
+odd-found word e = go (oddZeros word) refl
+  where
+    go : (odd : Bool) → oddZeros word ≡ odd → oddZeros word ≡ true
+    go true o = o
+    go false o = let even : Corrected ≡ Uncorrected = rw o at e in let z : _≡_ {A = ℕ} 0 1 = cc in absurd (omega arith)
 
 -- one more one turns the zeros about
 turned : (a b : ℕ) → a < 2 ^ 64 → b < 2 ^ 64 → counted a ≡ counted b + 1 → oddZeros (wordWith b) ≡ true → oddZeros (wordWith a) ≡ false
@@ -42,31 +53,50 @@ turned-back a b ha hb more even =
     let was : (67 - counted a) % 2 ≡ 1 → ⊥ = eqb-false _ _ (odd-by-count a ha ∙ even) in
     sym (odd-by-count b hb) ∙ eq-eqb ((67 - counted b) % 2) 1 (omega (arith, ones-le 64 a ha, ones-le 64 b hb))
 
-module _ (mode : ℕ) (r : Record) (fits : Writable (r .address) (r .groups)) (unset : r .flags .mark ≡ No) where
-  more : counted (informationIn mode (marked Yes r)) ≡ counted (informationIn mode r) + 1
-  more = mark-counts (rateAt mode) r fits ∙ ap (λ (n : ℕ). counted n + 1) (plain mode r unset)
+module _ (mode : ℕ) (r : Record) (fits : Writable (r .address) (r .groups)) where
+  -- the information bits with the polarity bit 0, and with it set
+  abbrev clear : ℕ
+  clear = informationIn mode (marked No r)
 
-  -- the mark that the word of a record has
-  pub polarity : (mark : Flag) × (correctedOf mode r ≡ informationIn mode (marked mark r)) × (oddZeros (wordWith (correctedOf mode r)) ≡ false)
-  polarity = go (oddZeros (wordWith (informationIn mode r))) refl
+  abbrev set : ℕ
+  set = informationIn mode (marked Yes r)
+
+  low : (mark : Flag) → informationIn mode (marked mark r) < 2 ^ 64
+  low mark = info-below (rateAt mode) (marked mark r) fits
+
+  -- a word that is made corrected is found so
+  pub evened : oddZeros (wordWith (made Corrected clear set)) ≡ false
+  evened = go (oddZeros (wordWith clear)) refl
     where
-      low : (mark : Flag) → informationIn mode (marked mark r) < 2 ^ 64
-      low mark = info-below (rateAt mode) (marked mark r) fits
+      go : (odd : Bool) → oddZeros (wordWith clear) ≡ odd → oddZeros (wordWith (made Corrected clear set)) ≡ false
+      go true e = rw e (turned set clear (low Yes) (low No) (mark-counts (rateAt mode) r fits) e)
+      go false e = rw e e
 
-      go : (odd : Bool) → oddZeros (wordWith (informationIn mode r)) ≡ odd
-          → (mark : Flag) × (correctedOf mode r ≡ informationIn mode (marked mark r)) × (oddZeros (wordWith (correctedOf mode r)) ≡ false)
-      go true e = (Yes, rw e, rw e (turned (informationIn mode (marked Yes r)) (informationIn mode r) (low Yes) (info-below (rateAt mode) r fits) more e))
-      go false e = (No, rw e (sym (plain mode r unset)), rw e e)
+  -- the mark that a word of the record has: no, or else its zeros are even
+  pub polarity :
+      (make : Found)
+      → (mark : Flag) × (made make clear set ≡ informationIn mode (marked mark r)) × ((oddZeros (wordWith (made make clear set)) && isYes mark) ≡ false)
+  polarity Uncorrected = (No, refl, and-false (oddZeros (wordWith clear)))
+  polarity Corrected = (mark (oddZeros (wordWith clear)) refl .0, mark (oddZeros (wordWith clear)) refl .1, rw evened)
+    where
+      mark : (odd : Bool) → oddZeros (wordWith clear) ≡ odd → (mark : Flag) × (made Corrected clear set ≡ informationIn mode (marked mark r))
+      mark true e = (Yes, rw e)
+      mark false e = (No, rw e)
 
-  -- a word with even zeros whose record differs from r in its mark at most is the word of r
-  pub only-polarity : (n : ℕ) (mark : Flag) → informationIn mode (marked mark r) ≡ n → oddZeros (wordWith n) ≡ false → correctedOf mode r ≡ n
-  only-polarity n No e even =
-      let same : informationIn mode r ≡ n = sym (plain mode r unset) ∙ e in
-      let already : oddZeros (wordWith (informationIn mode r)) ≡ false = rw same even in
-      rw already same
-  only-polarity n Yes e even =
-      let set = informationIn mode (marked Yes r) in
-      let low = info-below (rateAt mode) (marked Yes r) fits in
-      let evened : oddZeros (wordWith set) ≡ false = rw e even in
-      let odd : oddZeros (wordWith (informationIn mode r)) ≡ true = turned-back set (informationIn mode r) low (info-below (rateAt mode) r fits) more evened in
-      rw odd e
+  -- a word that differs from the record's words in its mark at most, and is not refused by 5, is the one that is made by what is found in it
+  pub only-polarity :
+      (n : ℕ) (mark : Flag) → informationIn mode (marked mark r) ≡ n → (oddZeros (wordWith n) && isYes mark) ≡ false
+      → made (foundIn (wordWith n)) clear set ≡ n
+  only-polarity n mark e right = go (oddZeros (wordWith n)) refl mark e right
+    where
+      go : (odd : Bool) → oddZeros (wordWith n) ≡ odd → (mark : Flag) → informationIn mode (marked mark r) ≡ n → (odd && isYes mark) ≡ false
+          → made (foundIn (wordWith n)) clear set ≡ n
+      go true o No e right = rw o e
+      go true o Yes e right = absurd (true≢false right)
+      go false o No e right =
+          let already : oddZeros (wordWith clear) ≡ false = rw e o in
+          rw (o, already) e
+      go false o Yes e right =
+          let even : oddZeros (wordWith set) ≡ false = rw e o in
+          let odd : oddZeros (wordWith clear) ≡ true = turned-back set clear (low Yes) (low No) (mark-counts (rateAt mode) r fits) even in
+          rw (o, odd) e

@@ -3,9 +3,11 @@ ghost use Prim.Native.Nat.{_≤_};
 ghost use lib.ListN.{length};
 use crate::types::Carrier;
 use answers::put_byte;
+use answers::put_read;
 use answers::put_record;
 use answers::put_refused;
 use atc::Packet;
+use polarity::Word;
 use record::Unpacked;
 use requests::LONGEST_LINE;
 use requests::bits_at;
@@ -14,19 +16,30 @@ use requests::is_end;
 use requests::number_at;
 use requests::words_at;
 
-fn read_bits(carrier: Carrier, mode: u8, run: &[u8]) -> Unpacked {
-    match carrier {
-        Carrier::Ltc => ltc::read(mode, run),
-        Carrier::Vitc => vitc::read(mode, run),
-    }
-}
-
 fn put_unpacked(out: &mut [u8], unpacked: Unpacked) -> usize
     ensures { λ r. ⌜ r ≤ length (now (out .entry)) ⌝ }
 {
     match unpacked {
         Unpacked::Refused(number) => put_refused(out, number),
         Unpacked::Holds(record) => put_record(out, record),
+    }
+}
+
+fn put_word(out: &mut [u8], word: Word) -> usize
+    ensures { λ r. ⌜ r ≤ length (now (out .entry)) ⌝ }
+{
+    match word {
+        Word::Refused(number) => put_refused(out, number),
+        Word::Holds(record, found) => put_read(out, record, found),
+    }
+}
+
+fn put_bits_read(carrier: Carrier, mode: u8, run: &[u8], out: &mut [u8]) -> usize
+    ensures { λ r. ⌜ r ≤ length (now (out .entry)) ⌝ }
+{
+    match carrier {
+        Carrier::Ltc => put_word(out, ltc::read(mode, run)),
+        Carrier::Vitc => put_unpacked(out, vitc::read(mode, run)),
     }
 }
 
@@ -52,8 +65,7 @@ pub fn answer_bits_read(carrier: Carrier, line: &[u8], cursor: usize, out: &mut 
     let taken = bits_at(line, mode.next, &mut run);
     let length = taken.length;
     if is_end(line, taken.next) {
-        let unpacked = read_bits(carrier, byte(mode.value), &run[0..length]);
-        return put_unpacked(out, unpacked);
+        return put_bits_read(carrier, byte(mode.value), &run[0..length], out);
     }
     0
 }

@@ -6,7 +6,7 @@ use answers::put_bits;
 use answers::put_refused;
 use answers::put_text;
 use answers::put_words;
-use record::Record;
+use polarity::Found;
 use requests::MOST_NUMBERS;
 use requests::Numbers;
 use requests::byte;
@@ -22,9 +22,19 @@ fn refusal(written: Written) -> u8 {
     }
 }
 
-fn write_bits(carrier: Carrier, mode: u8, record: Record, start: usize, run: &mut [u8]) -> u8 {
+// "MAKE alike": 0 corrected, 1 uncorrected.
+fn make_told(number: u64) -> Found {
+    if number == 0 {
+        return Found::Corrected;
+    }
+    Found::Uncorrected
+}
+
+fn write_bits(carrier: Carrier, n: &Numbers, start: usize, run: &mut [u8]) -> u8 {
+    let mode = byte(n[0]);
+    let record = record_in(n);
     match carrier {
-        Carrier::Ltc => refusal(ltc::write(mode, record, start, run)),
+        Carrier::Ltc => refusal(ltc::write(mode, record, make_told(n[21]), start, run)),
         Carrier::Vitc => refusal(vitc::write(mode, record, start, run)),
     }
 }
@@ -43,7 +53,7 @@ fn put_bits_written(carrier: Carrier, n: &Numbers, run: &mut [u8], out: &mut [u8
     ensures { λ r. ⌜ r ≤ length (now (out .entry)) ⌝ }
 {
     let start = n[1] as usize;
-    let refusal = write_bits(carrier, byte(n[0]), record_in(n), start, run);
+    let refusal = write_bits(carrier, n, start, run);
     let next = put_written(out, refusal);
     put_bits(out, next, run)
 }
@@ -58,13 +68,20 @@ fn put_words_written(n: &Numbers, run: &mut [u16], out: &mut [u8]) -> usize
     put_words(out, next, run)
 }
 
-// `MODE START LENGTH RECORD`, which TYPE and SECOND follow in `atc-write`.
+// `MODE START LENGTH RECORD`, which MAKE follows in `ltc-write`, and TYPE and SECOND in `atc-write`.
+fn take_bits_write(carrier: Carrier, line: &[u8], cursor: usize, n: &mut Numbers) -> bool {
+    match carrier {
+        Carrier::Ltc => take_numbers(line, cursor, b"bslbbbbffffffbbbbbbbbf", n),
+        Carrier::Vitc => take_numbers(line, cursor, b"bslbbbbffffffbbbbbbbb", n),
+    }
+}
+
 pub fn answer_bits_write(carrier: Carrier, line: &[u8], cursor: usize, out: &mut [u8]) -> usize
     ensures { λ r. ⌜ r ≤ length (now (out .entry)) ⌝ }
 {
     let mut n = [0u64; MOST_NUMBERS];
     let mut run = [7u8; 400];
-    if take_numbers(line, cursor, b"bslbbbbffffffbbbbbbbb", &mut n) {
+    if take_bits_write(carrier, line, cursor, &mut n) {
         let length = n[2] as usize;
         if length <= 400 {
             return put_bits_written(carrier, &n, &mut run[0..length], out);

@@ -6,7 +6,7 @@ use mathlib.Core.Path.{_≡_, refl, sym}
 use mathlib.Core.List.{List, _++_}
 use native.Mathlib.Omega.{arith}
 use lib.ListN.{length}
-use Rattle.record.specs.declared.types.Record.{Record}
+use Rattle.reader.specs.declared.types.Report.{Report}
 use Rattle.reader.specs.declared.types.Heard.{Heard}
 use Rattle.reader.specs.declared.types.Heard.the-variants.{Nothing, Accepted, Refused}
 use Rattle.runs.specs.Run.{placed}
@@ -38,10 +38,10 @@ module _ (bits : ℕ) (text : List ℕ) {p : ℕ} {mid : List ℕ} (long : 48 �
         rw e (omega (arith, all .0), all .1)
 
     accepted :
-        (r : Record) → heard ≡ Accepted r → Stands (acceptedText r) p mid q out
+        (report : Report) → heard ≡ Accepted report → Stands (acceptedText (report .«record»)) p mid q out
         → (q ≡ length (lineOf bits heard)) × (out ≡ placed 0 (lineOf bits heard) text)
     unfolding lineOf
-    accepted r e = told (acceptedText r) (rw e)
+    accepted report e = told (acceptedText (report .«record»)) (rw e)
 
     refused :
         (number : ℕ) → heard ≡ Refused number → Stands (refusedText number) p mid q out
@@ -59,7 +59,7 @@ append-decimal-requires : tie.Need-append-decimal-requires
 append-decimal-requires c κs = search needs
 
 lay-accepted-requires : tie.Need-lay-accepted-requires
-lay-accepted-requires c κs = omega (arith, early (c .before .before .before .before .before .before .args .bits) _ (search needs) (c .before .append-decimal .ensures))
+lay-accepted-requires c κs = omega (arith, early (c .before .before .before .before .before .before .before .args .bits) _ (search needs) (c .before .append-decimal .ensures))
 
 enum-known-heard-2 : tie.Need-enum-known-heard-2
 enum-known-heard-2 c = search needs
@@ -75,7 +75,7 @@ returns c = nothing (c .before .before .args .bits) _ (c .before .before .args .
 
 returns-2 : tie.Need-returns-2
 returns-2 c =
-    accepted _ _ (search needs) (c .before .before .append-decimal .ensures) _ _ (c .before .before .before .before .before .heard .given .1) (c .lay-accepted .ensures)
+    accepted _ _ (search needs) (c .before .before .append-decimal .ensures) _ _ (c .before .before .before .before .before .before .heard .given .1) (c .lay-accepted .ensures)
 
 returns-3 : tie.Need-returns-3
 returns-3 c =

@@ -6,6 +6,7 @@ use native.Mathlib.Omega.{arith}
 use lib.ListN.{length}
 use borrow.Author.Needs.{needs}
 use Rattle.runs.proofs.Written.{room-told}
+use Rattle.polarity.specs.declared.types.Found.the-variants.{Corrected}
 use Rattle.ltc.proofs.WriteTests.{no-mode, by-the-record, with-a-mark, free, without-room, done}
 use Rattle.ltc.proofs.writing.write.Statement.{statement}
 use Rattle.ltc.proofs.writing.write.Tie as tie
@@ -20,7 +21,7 @@ enum-told : tie.Need-enum-told
 enum-told c = search needs
 
 returns : tie.Need-returns
-returns c = no-mode _ _ _ _ _ (c .before .before .rate-of .ensures) _ (c .enum-told .given .1)
+returns c = no-mode _ _ _ _ _ _ (c .before .before .rate-of .ensures) _ (c .enum-told .given .1)
 
 to-bits-requires : tie.Need-to-bits-requires
 to-bits-requires c κs = search needs
@@ -36,21 +37,21 @@ is-yes-requires c κs = search needs
 
 returns-2 : tie.Need-returns-2
 returns-2 c =
-    with-a-mark _ _ _ _ _ (c .before .before .before .before .before .before .before .before .before .rate-of .ensures) _ (c .before .before .before .before .before .before .before .rate .given .1) _ (c .before .before .before .before .before .to-bits .ensures) _ (c .before .before .before .found2 .given .1) _ (c .before .is-yes .ensures) (search needs)
+    with-a-mark _ _ _ _ _ _ (c .before .before .before .before .before .before .before .before .before .rate-of .ensures) _ (c .before .before .before .before .before .before .before .rate .given .1) _ (c .before .before .before .before .before .to-bits .ensures) _ (c .before .before .before .found2 .given .1) _ (c .before .is-yes .ensures) (search needs)
 
 lacks-room-requires : tie.Need-lacks-room-requires
 lacks-room-requires c κs = search needs
 
 returns-3 : tie.Need-returns-3
 returns-3 c =
-    without-room _ _ _ _ _ (c .before .before .before .before .before .before .before .before .before .before .before .rate-of .ensures) _ (c .before .before .before .before .before .before .before .before .before .rate .given .1) _ (c .before .before .before .before .before .before .before .to-bits .ensures) _ (c .before .before .before .before .before .found2 .given .1) _ (c .before .before .before .is-yes .ensures) (search needs) _ (c .before .lacks-room .ensures) (search needs)
+    without-room _ _ _ _ _ _ (c .before .before .before .before .before .before .before .before .before .before .before .rate-of .ensures) _ (c .before .before .before .before .before .before .before .before .before .rate .given .1) _ (c .before .before .before .before .before .before .before .to-bits .ensures) _ (c .before .before .before .before .before .found2 .given .1) _ (c .before .before .before .is-yes .ensures) (search needs) _ (c .before .lacks-room .ensures) (search needs)
 
-corrected-requires : tie.Need-corrected-requires
-corrected-requires c κs =
-    free _ 0 _ [] _ (c .before .before .before .before .before .before .before .before .before .before .before .rate-of .ensures) _ (c .before .before .before .before .before .before .before .before .before .rate .given .1) _ (c .before .before .before .before .before .before .before .to-bits .ensures) _ (c .before .before .before .before .before .found2 .given .1) _ (c .before .before .before .is-yes .ensures) (search needs)
+made-requires : tie.Need-made-requires
+made-requires c κs =
+    free _ 0 _ Corrected [] _ (c .before .before .before .before .before .before .before .before .before .before .before .rate-of .ensures) _ (c .before .before .before .before .before .before .before .before .before .rate .given .1) _ (c .before .before .before .before .before .before .before .to-bits .ensures) _ (c .before .before .before .before .before .found2 .given .1) _ (c .before .before .before .is-yes .ensures) (search needs)
 
 -- once the room has been tested, the word ends within the run
-room : (c : tie.After-corrected) → c .before .before .before .before .before .before .before .before .before .before .before .before .before .before .before .args .start + 80 ≤ length (c .before .before .before .before .before .before .before .before .before .before .before .before .before .before .before .args .run .now)
+room : (c : tie.After-made) → c .before .before .before .before .before .before .before .before .before .before .before .before .before .before .before .args .start + 80 ≤ length (c .before .before .before .before .before .before .before .before .before .before .before .before .before .before .before .args .run .now)
 room c = room-told _ _ _ _ (c .before .before .lacks-room .ensures) (search needs)
 
 add-end : tie.Need-add-end
@@ -69,15 +70,15 @@ store-requires : tie.Need-store-requires
 store-requires c κs = search needs
 
 returns-4 : tie.Need-returns-4
-returns-4 c = by-the-record _ _ _ _ _ (c .before .before .before .before .before .before .before .rate-of .ensures) _ (c .before .before .before .before .before .rate .given .1) _ (c .before .before .before .to-bits .ensures) _ (search needs)
+returns-4 c = by-the-record _ _ _ _ _ _ (c .before .before .before .before .before .before .before .rate-of .ensures) _ (c .before .before .before .before .before .rate .given .1) _ (c .before .before .before .to-bits .ensures) _ (search needs)
 
 same-length : tie.Need-same-length
 same-length c = search needs
 
 returns-5 : tie.Need-returns-5
 returns-5 c =
-    done _ _ _ _ _ (c .before .before .before .before .before .before .before .before .before .before .before .before .before .before .before .before .rate-of .ensures) _ (c .before .before .before .before .before .before .before .before .before .before .before .before .before .before .rate .given .1) _ (c .before .before .before .before .before .before .before .before .before .before .before .before .to-bits .ensures) _ (c .before .before .before .before .before .before .before .before .before .before .found2 .given .1) _ (c .before .before .before .before .before .before .before .before .is-yes .ensures) (search needs) _ (c .before .before .before .before .before .before .lacks-room .ensures) (search needs)
-    _ _ (c .before .before .before .before .corrected .ensures) (c .before .before .store .ensures)
+    done _ _ _ _ _ _ (c .before .before .before .before .before .before .before .before .before .before .before .before .before .before .before .before .rate-of .ensures) _ (c .before .before .before .before .before .before .before .before .before .before .before .before .before .before .rate .given .1) _ (c .before .before .before .before .before .before .before .before .before .before .before .before .to-bits .ensures) _ (c .before .before .before .before .before .before .before .before .before .before .found2 .given .1) _ (c .before .before .before .before .before .before .before .before .is-yes .ensures) (search needs) _ (c .before .before .before .before .before .before .lacks-room .ensures) (search needs)
+    _ _ (c .before .before .before .before .made .ensures) (c .before .before .store .ensures)
 
 pub write-spec : {M : Type 1} → statement M
 write-spec =
@@ -94,7 +95,7 @@ write-spec =
     returns-2
     lacks-room-requires
     returns-3
-    corrected-requires
+    made-requires
     add-end
     sub-store
     part-store-start
