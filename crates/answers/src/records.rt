@@ -83,7 +83,7 @@ pub fn put_record(out: &mut [u8], record: Record) -> usize
     put_bytes(out, next, &fields)
 }
 
-// "FOUND is 0 corrected, 1 uncorrected".
+// "FOUND is 0 where a linear word was found corrected, 1 where uncorrected".
 fn found_number(found: Found) -> u8 {
     match found {
         Found::Corrected => 0,

@@ -4,14 +4,17 @@
 -- What the elements mean is in the definitions of the carriers; that what is carried, read or written, matches one to one is here.
 -- Assumes nothing.
 use Prim.Native.Nat.{ℕ, _+_, _<_, _≤_}
-use mathlib.Core.Path.{_≡_, refl, _∙_}
+use mathlib.Core.Path.{_≡_, refl, sym, ap, _∙_}
+use mathlib.Core.Bool.{true}
 use mathlib.Core.List.{List}
 use mathlib.Core.Logic.{_↔_, _⊎_}
 use native.Mathlib.Omega.{arith}
 use lib.ListN.{length, take, drop}
+use Rattle.refusals.specs.Table.{wrong-check}
 use Rattle.runs.specs.Run.{placed}
 use Rattle.runs.proofs.Parts.{read-back}
 use Rattle.rates.specs.declared.types.Flag.{Flag}
+use Rattle.rates.specs.declared.types.Flag.the-variants.{Yes}
 use Rattle.rates.specs.declared.types.Address.{Address}
 use Rattle.clock.specs.declared.types.DayFrame.{DayFrame}
 use Rattle.clock.specs.declared.types.Numbered.the-variants.{Number, Refused as Unnumbered}
@@ -26,17 +29,18 @@ use Rattle.modes.proofs.Clocked.{number-at-rate, address-at-rate}
 use Rattle.trips.proofs.Numbers.{one-to-one}
 use Rattle.polarity.specs.declared.types.Found.{Found}
 use Rattle.polarity.specs.declared.types.Found.the-variants.{Corrected, Uncorrected}
-use Rattle.polarity.specs.declared.types.Word.the-variants.{Holds as Heard}
-use Rattle.polarity.specs.Word.{foundIn, wordOf}
+use Rattle.polarity.specs.declared.types.Word.the-variants.{Holds as Read, Refused as Unread}
+use Rattle.polarity.specs.Word.{infoIn, oddZeros, polarityBit, foundIn, wordOf}
 use Rattle.ltc.specs.Calls.{readOf}
 use Rattle.trips.proofs.Polarity.{odd-found}
+use Rattle.trips.proofs.Five.{five-only}
 use Rattle.trips.proofs.Words as ltc
 use Rattle.vitc.specs.Calls.{lineOf}
 use Rattle.trips.proofs.Lines as vitc
 use Rattle.atc.specs.Calls.{packetOf}
 use Rattle.trips.proofs.Packets as atc
 use Rattle.demands.specs.Modes.{CountingMode}
-use Rattle.demands.specs.Carriers.{Carrier, linear, FoundAsMade, interval, ancillary, only, Accepting, Reading, Matches}
+use Rattle.demands.specs.Carriers.{Carrier, linear, clearWord, FoundAsMade, interval, ancillary, only, Accepting, Reading, Matches}
 use Rattle.demands.proofs.Demand1.{linear-room, interval-room, ancillary-room}
 use Rattle.demands.proofs.Accepted.{known, allowed, acceptable-exactly}
 
@@ -101,10 +105,12 @@ matches carrier law mode c start run elements room = (there, back)
 
 -- a word of an acceptable record is found as it was made, where that can be, and only there
 found-as-made : (make : Found) (mode : ℕ) (r : Record) → ltc.Acceptable mode r → FoundAsMade make mode r → foundIn (wordOf mode r make) ≡ make
+unfolding wordOf
 found-as-made Corrected mode r ok can = ltc.corrected-found mode r ok
 found-as-made Uncorrected mode r ok odd = rw odd
 
-made-as-found : (make : Found) (mode : ℕ) (r : Record) (word : List ℕ) → readOf mode word ≡ Heard r make → FoundAsMade make mode r
+made-as-found : (make : Found) (mode : ℕ) (r : Record) (word : List ℕ) → readOf mode word ≡ Read r make → FoundAsMade make mode r
+unfolding wordOf
 made-as-found Corrected mode r word reads = tt
 made-as-found Uncorrected mode r word reads = rw (ltc.written-of-read mode r Uncorrected word reads .1) (odd-found word (ltc.read-clear mode r Uncorrected word reads .2))
 
@@ -174,16 +180,30 @@ interval-accepts = accepting interval interval-laws
 pub ancillary-accepts : Accepting ancillary
 ancillary-accepts = accepting ancillary ancillary-laws
 
--- Document 02, A1: "Reading back a written word gives its record", whichever was made. Shut out: uncorrected words written with the polarity bit set, which 5
--- refuses or which are found corrected.
+-- Document 02, A1: "refused by 5 only if its zeros are odd and its polarity bit is 1". Shut out: the old rule, by which odd zeros alone are refused.
+pub linear-refused-by-5 :
+    (mode : ℕ) (word : List ℕ) → readOf mode word ≡ Unread wrong-check → (oddZeros word ≡ true) × (polarityBit mode (infoIn word) ≡ Yes)
+linear-refused-by-5 = five-only
+
+-- "uncorrected writes the bit as 0".
+pub linear-left-clear :
+    (mode : ℕ) (r : Record) (start : ℕ) (run : List ℕ) → linear Uncorrected .Writes mode r start run
+    → linear Uncorrected .leaves mode r start run ≡ placed start (clearWord mode r) run
+unfolding wordOf
+linear-left-clear mode r start run done = ltc.done-leaves mode r Uncorrected start run done
+
+-- "Reading back a written word gives its record": whichever was made, with what its zeros say was found. Shut out, with the above: a reader that refuses each
+-- uncorrected word.
 pub linear-reads-back :
     (make : Found) (mode : ℕ) (r : Record) (start : ℕ) (run : List ℕ) → linear make .Writes mode r start run
-    → (found : Found) × linear found .Reads mode (take 80 (drop start (linear make .leaves mode r start run))) r
-linear-reads-back make mode r start run done = (foundIn (wordOf mode r make), ltc.done-reads mode r make start run done)
+    → let left = take 80 (drop start (linear make .leaves mode r start run)) in linear (foundIn left) .Reads mode left r
+linear-reads-back make mode r start run done =
+    let reads = ltc.done-reads mode r make start run done in
+    reads ∙ ap (Read r) (sym (ltc.read-clear mode r _ _ reads .2))
 
 -- Some elements read as a content exactly where it is taken; as a record and what was found, where a word of it can be found so: as uncorrected, where its
 -- word with the polarity bit 0 has odd zeros. Shut out: a reader that refuses each word, or each uncorrected word; one that reports one fixed address; one that
--- tells what was found the other way round, or always corrected.
+-- tells what was found the other way round, always corrected, or by the polarity bit.
 pub linear-reads : (found : Found) → Reading (only (FoundAsMade found) (linear found))
 linear-reads found = reading (only (FoundAsMade found) (linear found)) (linear-laws found)
 

@@ -12,10 +12,12 @@ use Rattle.runs.specs.Run.{placed}
 use Rattle.rates.specs.declared.types.Flag.the-variants.{No}
 use Rattle.record.specs.declared.types.Record.{Record}
 use Rattle.record.specs.declared.types.Unpacked.the-variants.{Holds}
+use Rattle.record.specs.Record.{marked}
+use Rattle.modes.specs.Calls.{informationIn}
 use Rattle.polarity.specs.declared.types.Found.{Found}
 use Rattle.polarity.specs.declared.types.Found.the-variants.{Corrected, Uncorrected}
-use Rattle.polarity.specs.declared.types.Word.the-variants.{Holds as Heard}
-use Rattle.polarity.specs.Word.{oddZeros, wordOf}
+use Rattle.polarity.specs.declared.types.Word.the-variants.{Holds as Read}
+use Rattle.polarity.specs.Word.{wordWith, oddZeros}
 use Rattle.ltc.specs.Calls as ltc
 use Rattle.vitc.specs.Calls as vitc
 use Rattle.atc.specs.declared.types.Contents.{Contents}
@@ -44,14 +46,18 @@ linear make =
       Writes = λ mode r start run. ltc.writtenOf mode r start run ≡ Done;
       Refuses = λ mode r start run number. ltc.writtenOf mode r start run ≡ Refused number;
       leaves = λ mode r. ltc.runOf mode r make;
-      Reads = λ mode word r. ltc.readOf mode word ≡ Heard r make;
+      Reads = λ mode word r. ltc.readOf mode word ≡ Read r make;
     }
 
--- Where a word is found as it was made: a corrected one always; an uncorrected one, whose polarity bit is 0, only where its zeros are odd. Where they happen to be
+-- the linear word of a record with the polarity bit 0
+abbrev pub clearWord : ℕ → Record → List ℕ
+clearWord mode r = wordWith (informationIn mode (marked No r))
+
+-- Where a word is found as it was made: a corrected one always; an uncorrected one only where its zeros, with the polarity bit 0, are odd. Where they happen to be
 -- even it is the corrected word too, and is read as that.
 abbrev pub FoundAsMade : Found → ℕ → Record → Type 0
 FoundAsMade Corrected mode r = Unit {0}
-FoundAsMade Uncorrected mode r = oddZeros (wordOf mode r Uncorrected) ≡ true
+FoundAsMade Uncorrected mode r = oddZeros (clearWord mode r) ≡ true
 
 -- 90 bits of a vertical interval line: `vitc::write` and `vitc::read`
 abbrev pub interval : Carrier Record
@@ -79,7 +85,7 @@ ancillary =
       Reads = λ mode words c. atc.readOf mode words ≡ Carries c;
     }
 
--- the same carrier, asked of some contents only
+-- the same carrier, where what is accepted, written and read is asked of some contents only
 abbrev pub only : {Content : Type 0} → (ℕ → Content → Type 0) → Carrier Content → Carrier Content
 only Some carrier =
     record {

@@ -34,7 +34,7 @@ relaying lie reader bits = map lie (answers reader bits)
 -- the same for each report, whatever the word
 abbrev pub always : Heard → Heard → Heard
 always other Nothing = Nothing
-always other (Accepted r) = other
+always other (Accepted report) = other
 always other (Refused n) = Refused n
 
 drop-map : {A B : Type 0} (f : A → B) (n : ℕ) (xs : List A) → drop n (map f xs) ≡ map f (drop n xs)
@@ -53,7 +53,9 @@ pub no-choice :
 no-choice player follows reader reached known words = follows reader reached known words ∙ sym (demand-3 reader reached known words)
 
 -- a player who changes what the reader says follows only where each accepted word's report is passed on as it is
-pub honest : (lie : Heard → Heard) → Follows (relaying lie) → (mode : ℕ) → unknown mode ≡ false → (word : CodeWord mode) → lie (Accepted (reporting (word .says) (word .found))) ≡ Accepted (reporting (word .says) (word .found))
+pub honest :
+    (lie : Heard → Heard) → Follows (relaying lie) → (mode : ℕ) → unknown mode ≡ false → (word : CodeWord mode)
+    → lie (Accepted (reporting (word .says) (word .found))) ≡ Accepted (reporting (word .says) (word .found))
 unfolding eachAsItself
 honest lie follows mode known word =
     let reader = freshOf mode in
@@ -65,7 +67,7 @@ honest lie follows mode known word =
 
 frameIn : Heard → ℕ
 frameIn Nothing = 0
-frameIn (Accepted r) = r .«record» .address .frames .0
+frameIn (Accepted report) = report .«record» .address .frames .0
 frameIn (Refused n) = 0
 
 -- with nothing for each report, a number, or one fixed record: one that never reports, that refuses each word, that reports one fixed address
@@ -80,11 +82,11 @@ no-impostor other follows =
 -- something else for each uncorrected word
 abbrev pub uncorrectedAs : (Record → Heard) → Heard → Heard
 uncorrectedAs other Nothing = Nothing
-uncorrectedAs other (Accepted r) = byFound (r .found)
+uncorrectedAs other (Accepted report) = byFound (report .found)
   where
     byFound : Found → Heard
-    byFound Corrected = Accepted r
-    byFound Uncorrected = other (r .«record»)
+    byFound Corrected = Accepted report
+    byFound Uncorrected = other (report .«record»)
 uncorrectedAs other (Refused n) = Refused n
 
 -- 00:00:00:00 at 30 frames, groups and flags 0, the polarity bit left 0

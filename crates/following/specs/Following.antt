@@ -16,7 +16,6 @@ use Rattle.ltc.specs.Calls.{readOf}
 use Rattle.register.specs.declared.types.Reader.{Reader}
 use Rattle.reader.specs.declared.types.Heard.{Heard}
 use Rattle.reader.specs.declared.types.Heard.the-variants.{Nothing, Accepted}
-use Rattle.reader.specs.Steps.{reporting}
 use Rattle.following.specs.Reach.{Reached}
 
 -- a code word that is accepted in a mode, the record that it is read as, and what is found in it; "Demand 3 then speaks of all words accepted by the new rule"
@@ -35,7 +34,7 @@ module _ {mode : ℕ} where
   -- "Each word is reported, as itself, at its 80th bit", with "no report and no complaint anywhere else"
   unfoldable pub eachAsItself : List (CodeWord mode) → List Heard
   eachAsItself [] = []
-  eachAsItself (word ∷ words) = (replicate 79 Nothing ++ (Accepted (reporting (word .says) (word .found)) ∷ [])) ++ eachAsItself words
+  eachAsItself (word ∷ words) = (replicate 79 Nothing ++ (Accepted (record { «record» = word .says; found = word .found }) ∷ [])) ++ eachAsItself words
 
 -- "After the fifth bit of the first word"
 abbrev pub settled : ℕ

@@ -1,10 +1,11 @@
 -- "The lowest that applies is given, except that 13 comes straight after 2": of a list that follows an order, the first number of the order that
 -- applies is given.
 -- Assumes nothing.
-use Prim.Native.Nat.{ℕ}
-use mathlib.Core.Path.{_≡_, refl, sym}
+use Prim.Native.Nat.{ℕ, _<_}
+use mathlib.Core.Path.{_≡_, refl, sym, _∙_}
 use mathlib.Core.Bool.{Bool, true, false, _||_, cond, true≢false}
 use mathlib.Core.List.{List, [], _∷_}
+use native.Mathlib.Omega.{arith}
 use lib.Dec.{eqb}
 use borrow.Author.Tests.{eqb-true, eqb-false, eq-eqb, ne-eqb}
 use Rattle.refusals.specs.Table.{theOrder}
@@ -79,3 +80,17 @@ module _ {A : Type 0} (refused : ℕ → A) (accepted : A) where
   -- the same of document 01's order
   pub first-of-the-order : (rows : List Refusal) → inOrder theOrder rows ≡ true → answer refused rows accepted ≡ firstOf theOrder refused rows accepted
   first-of-the-order = first-is-given theOrder (refl, (refl, (refl, (refl, (refl, (refl, (refl, (refl, (refl, (refl, (refl, (refl, (refl, (refl, tt))))))))))))))
+
+-- and a number that is given applies
+found-applies : (order : List ℕ) (n : ℕ) (rows : List Refusal) → 0 < n → firstOf order (λ (k : ℕ). k) rows 0 ≡ n → testOf n rows ≡ true
+found-applies [] n rows some e = absurd (omega arith)
+found-applies (k ∷ order) n rows some e = go (testOf k rows) refl e (found-applies order n rows some)
+  where
+    go : (t : Bool) → testOf k rows ≡ t → cond t k (firstOf order (λ (m : ℕ). m) rows 0) ≡ n
+        → (firstOf order (λ (m : ℕ). m) rows 0 ≡ n → testOf n rows ≡ true) → testOf n rows ≡ true
+    go true t here later = rw (← here) t
+    go false t there later = later there
+
+pub given-applies :
+    (n : ℕ) → 0 < n → (rows : List Refusal) → inOrder theOrder rows ≡ true → answer (λ (k : ℕ). k) rows 0 ≡ n → testOf n rows ≡ true
+given-applies n some rows follows e = found-applies theOrder n rows some (sym (first-of-the-order (λ (k : ℕ). k) 0 rows follows) ∙ e)

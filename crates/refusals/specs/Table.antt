@@ -19,7 +19,7 @@ element-too-high = 3
 abbrev pub wrong-sync : ℕ
 wrong-sync = 4
 
--- odd zeros (LTC), CRC, b8 or b9 of a data word, packet checksum word
+-- odd zeros (LTC), CRC, b8 or b9 of a data word, packet checksum word. Document 02, A1: odd zeros only where the polarity bit is 1
 abbrev pub wrong-check : ℕ
 wrong-check = 5
 

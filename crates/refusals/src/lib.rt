@@ -13,7 +13,7 @@ pub const UNKNOWN_MODE: u8 = 2;
 pub const ELEMENT_TOO_HIGH: u8 = 3;
 // Sync word, a sync pair, or one of the first six packet words is wrong.
 pub const WRONG_SYNC: u8 = 4;
-// Odd zeros (LTC), CRC, b8 or b9 of a data word, packet checksum word.
+// Odd zeros (LTC) with the polarity bit 1, CRC, b8 or b9 of a data word, packet checksum word.
 pub const WRONG_CHECK: u8 = 5;
 // b0 to b2 of a data word not zero.
 pub const LOW_BITS_SET: u8 = 6;

@@ -5,10 +5,12 @@ pub mod Numbers
 pub mod Records
 pub mod ByMode
 -- Linear words:
--- Polarity   the polarity bit makes the zeros even, and only one of its two values does
--- Words      accepted words and acceptable records match one to one
+-- Polarity   what is made corrected has even zeros, and what is found says which of the two values of the polarity bit was made
+-- Words      what was written reads as its record, and what was read, written again by what was found, is the same
+-- Five       5 is given only where the zeros are odd and the polarity bit is 1
 pub mod Polarity
 pub mod Words
+pub mod Five
 -- Vertical interval lines:
 -- Crc        the eight bits that make every count even, and that no others do
 -- Standing   where the information bits and the pairs stand

@@ -178,6 +178,11 @@ module _ (mode : ℕ) (r : Record) (make : Found) (start : ℕ) (run : List ℕ)
       let ok = done-acceptable mode r start run e in
       rw (stored-reads rows start (wordOf mode r make) run 80 (word-length mode r make) clear room) (read-of-written mode r ok make)
 
+  -- it has left its word from the start on, and every other element as it was
+  pub done-leaves : writtenOf mode r start run ≡ Done → runOf mode r make start run ≡ placed start (wordOf mode r make) run
+  unfolding writtenOf runOf
+  done-leaves e = let rows = writtenRows mode r start run in stored rows start (wordOf mode r make) run (done-clear rows e)
+
   pub read-writes :
       (word : List ℕ) → readOf mode word ≡ Holds r make → start + 80 ≤ length run
       → (writtenOf mode r start run ≡ Done) × (runOf mode r make start run ≡ placed start word run)

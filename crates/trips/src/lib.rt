@@ -3,6 +3,6 @@
 //
 // proofs/Numbers  frame numbers and addresses, by mode
 // proofs/Records  the 64 bits and a record; proofs/ByMode the same by mode
-// proofs/Words    linear words and records
+// proofs/Words    linear words and records; proofs/Five when a word is refused by 5
 // proofs/Lines    vertical interval lines and records
 // proofs/Packets  packets, and record, type and second byte

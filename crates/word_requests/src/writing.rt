@@ -22,7 +22,7 @@ fn refusal(written: Written) -> u8 {
     }
 }
 
-// "MAKE alike": 0 corrected, 1 uncorrected.
+// "MAKE says in the same way which is to be written".
 fn make_told(number: u64) -> Found {
     if number == 0 {
         return Found::Corrected;
