@@ -5,16 +5,17 @@
 -- Assumes nothing.
 use Prim.Native.Nat.{ℕ, _+_, _<_, _≤_}
 use mathlib.Core.Path.{_≡_, refl, sym, ap, _∙_}
-use mathlib.Core.Bool.{true}
+use mathlib.Core.Bool.{Bool, true, false, cond}
 use mathlib.Core.List.{List}
 use mathlib.Core.Logic.{_↔_, _⊎_}
 use native.Mathlib.Omega.{arith}
 use lib.ListN.{length, take, drop}
 use Rattle.refusals.specs.Table.{wrong-check}
+use Rattle.bits.specs.Bits.{someAbove}
 use Rattle.runs.specs.Run.{placed}
 use Rattle.runs.proofs.Parts.{read-back}
 use Rattle.rates.specs.declared.types.Flag.{Flag}
-use Rattle.rates.specs.declared.types.Flag.the-variants.{Yes}
+use Rattle.rates.specs.declared.types.Flag.the-variants.{No, Yes}
 use Rattle.rates.specs.declared.types.Address.{Address}
 use Rattle.clock.specs.declared.types.DayFrame.{DayFrame}
 use Rattle.clock.specs.declared.types.Numbered.the-variants.{Number, Refused as Unnumbered}
@@ -23,24 +24,26 @@ use Rattle.record.specs.declared.types.Record.{Record}
 use Rattle.midnight.specs.Steps.{shown}
 use Rattle.midnight.proofs.Answers.{address-is-shown, refused-exactly}
 use Rattle.rates.specs.Rates.{isYes, framesInSecond, framesInDay}
-use Rattle.modes.specs.Modes.{rateAt}
-use Rattle.modes.specs.Calls.{numberIn, addressIn}
+use Rattle.modes.specs.Modes.{unknown, rateAt}
+use Rattle.record.specs.Record.{marked}
+use Rattle.modes.specs.Calls.{numberIn, addressIn, informationIn}
 use Rattle.modes.proofs.Clocked.{number-at-rate, address-at-rate}
 use Rattle.trips.proofs.Numbers.{one-to-one}
 use Rattle.polarity.specs.declared.types.Found.{Found}
 use Rattle.polarity.specs.declared.types.Found.the-variants.{Corrected, Uncorrected}
 use Rattle.polarity.specs.declared.types.Word.the-variants.{Holds as Read, Refused as Unread}
-use Rattle.polarity.specs.Word.{infoIn, oddZeros, polarityBit, foundIn, wordOf}
+use Rattle.polarity.specs.Word.{syncWord, wordWith, infoIn, oddZeros, polarityBit, foundIn, wordOf}
 use Rattle.ltc.specs.Calls.{readOf}
 use Rattle.trips.proofs.Polarity.{odd-found}
-use Rattle.trips.proofs.Five.{five-only}
+use Rattle.trips.proofs.Five.{five-exactly}
 use Rattle.trips.proofs.Words as ltc
 use Rattle.vitc.specs.Calls.{lineOf}
 use Rattle.trips.proofs.Lines as vitc
 use Rattle.atc.specs.Calls.{packetOf}
 use Rattle.trips.proofs.Packets as atc
 use Rattle.demands.specs.Modes.{CountingMode}
-use Rattle.demands.specs.Carriers.{Carrier, linear, clearWord, FoundAsMade, interval, ancillary, only, Accepting, Reading, Matches}
+use Rattle.demands.specs.Records.{Acceptable}
+use Rattle.demands.specs.Carriers.{Carrier, linear, withBit, bitFor, FoundAsMade, interval, ancillary, only, Accepting, Reading, Matches}
 use Rattle.demands.proofs.Demand1.{linear-room, interval-room, ancillary-room}
 use Rattle.demands.proofs.Accepted.{known, allowed, acceptable-exactly}
 
@@ -103,11 +106,21 @@ matches carrier law mode c start run elements room = (there, back)
         → carrier .Writes mode c start run × (length elements ≡ carrier .size) × (carrier .leaves mode c start run ≡ placed start elements run)
     back reads = let written = law .read-writes mode c start run elements room reads in (written .0, law .sized mode c elements reads, written .1)
 
+-- the word that is made of a record, by its bit
+word-by-bit : (make : Found) (mode : ℕ) (r : Record) → wordOf mode r make ≡ withBit (bitFor make mode r) mode r
+unfolding wordOf
+word-by-bit Uncorrected mode r = refl
+word-by-bit Corrected mode r = go (oddZeros (withBit No mode r))
+  where
+    go : (odd : Bool) → wordWith (cond odd (informationIn mode (marked Yes r)) (informationIn mode (marked No r))) ≡ withBit (cond odd Yes No) mode r
+    go true = refl
+    go false = refl
+
 -- a word of an acceptable record is found as it was made, where that can be, and only there
 found-as-made : (make : Found) (mode : ℕ) (r : Record) → ltc.Acceptable mode r → FoundAsMade make mode r → foundIn (wordOf mode r make) ≡ make
 unfolding wordOf
 found-as-made Corrected mode r ok can = ltc.corrected-found mode r ok
-found-as-made Uncorrected mode r ok odd = rw odd
+found-as-made Uncorrected mode r ok odd = ap (λ (b : Bool). cond b Uncorrected Corrected) odd
 
 made-as-found : (make : Found) (mode : ℕ) (r : Record) (word : List ℕ) → readOf mode word ≡ Read r make → FoundAsMade make mode r
 unfolding wordOf
@@ -180,17 +193,30 @@ interval-accepts = accepting interval interval-laws
 pub ancillary-accepts : Accepting ancillary
 ancillary-accepts = accepting ancillary ancillary-laws
 
--- Document 02, A1: "refused by 5 only if its zeros are odd and its polarity bit is 1". Shut out: the old rule, by which odd zeros alone are refused.
+-- Document 02, A1: "refused by 5 only if its zeros are odd and its polarity bit is 1": of 80 bits that end in the sync word, in a mode that is known, exactly
+-- then. Shut out: the old rule, by which odd zeros alone are refused, and one that never gives 5.
 pub linear-refused-by-5 :
-    (mode : ℕ) (word : List ℕ) → readOf mode word ≡ Unread wrong-check → (oddZeros word ≡ true) × (polarityBit mode (infoIn word) ≡ Yes)
-linear-refused-by-5 = five-only
+    (mode : ℕ) (word : List ℕ)
+    → (readOf mode word ≡ Unread wrong-check)
+    ↔ ((length word ≡ 80) × (unknown mode ≡ false) × (someAbove 1 word ≡ false) × (drop 64 word ≡ syncWord)
+    × (oddZeros word ≡ true) × (polarityBit mode (infoIn word) ≡ Yes))
+linear-refused-by-5 = five-exactly
 
--- "uncorrected writes the bit as 0".
-pub linear-left-clear :
-    (mode : ℕ) (r : Record) (start : ℕ) (run : List ℕ) → linear Uncorrected .Writes mode r start run
-    → linear Uncorrected .leaves mode r start run ≡ placed start (clearWord mode r) run
-unfolding wordOf
-linear-left-clear mode r start run done = ltc.done-leaves mode r Uncorrected start run done
+-- "corrected when the zeros are even, uncorrected when they are odd".
+pub linear-found :
+    (mode : ℕ) (r : Record) (found : Found) (word : List ℕ) → linear found .Reads mode word r → cond (oddZeros word) Uncorrected Corrected ≡ found
+linear-found mode r found word reads = ltc.read-clear mode r found word reads .2
+
+-- "Writing is told which to make, and uncorrected writes the bit as 0". Shut out: uncorrected words written with the bit set, or as corrected; corrected words
+-- written with it clear, or with another bit set for it.
+pub linear-leaves :
+    (make : Found) (mode : ℕ) (r : Record) (start : ℕ) (run : List ℕ) → linear make .Writes mode r start run
+    → linear make .leaves mode r start run ≡ placed start (withBit (bitFor make mode r) mode r) run
+linear-leaves make mode r start run done = ltc.done-leaves mode r make start run done ∙ ap (λ (word : List ℕ). placed start word run) (word-by-bit make mode r)
+
+-- and that is its polarity bit
+pub linear-bit : (bit : Flag) (mode : ℕ) (r : Record) → Acceptable mode r → polarityBit mode (infoIn (withBit bit mode r)) ≡ bit
+linear-bit bit mode r ok = ltc.bit-of-word mode r (acceptable-exactly mode r .1 ok) bit
 
 -- "Reading back a written word gives its record": whichever was made, with what its zeros say was found. Shut out, with the above: a reader that refuses each
 -- uncorrected word.
@@ -214,7 +240,7 @@ pub ancillary-reads : Reading ancillary
 ancillary-reads = reading ancillary ancillary-laws
 
 -- And what is read and what is written match one to one. On the linear track: "a word read and written again by what was found is the same". Shut out, with the
--- above: a writer that writes nothing, or touches another element; corrected words written with the polarity bit clear.
+-- above: a writer that writes nothing, or touches another element.
 pub linear-matches : (found : Found) → Matches (only (FoundAsMade found) (linear found))
 linear-matches found = matches (only (FoundAsMade found) (linear found)) (linear-laws found)
 

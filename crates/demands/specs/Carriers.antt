@@ -3,13 +3,14 @@
 -- Assumes nothing.
 use Prim.Native.Nat.{ℕ, _+_, _<_, _≤_}
 use mathlib.Core.Path.{_≡_}
-use mathlib.Core.Bool.{true}
+use mathlib.Core.Bool.{true, cond}
 use mathlib.Core.List.{List}
 use mathlib.Core.Logic.{_↔_, _⊎_}
 use lib.ListN.{length}
 use Rattle.runs.specs.declared.types.Written.the-variants.{Done, Refused}
 use Rattle.runs.specs.Run.{placed}
-use Rattle.rates.specs.declared.types.Flag.the-variants.{No}
+use Rattle.rates.specs.declared.types.Flag.{Flag}
+use Rattle.rates.specs.declared.types.Flag.the-variants.{No, Yes}
 use Rattle.record.specs.declared.types.Record.{Record}
 use Rattle.record.specs.declared.types.Unpacked.the-variants.{Holds}
 use Rattle.record.specs.Record.{marked}
@@ -49,15 +50,20 @@ linear make =
       Reads = λ mode word r. ltc.readOf mode word ≡ Read r make;
     }
 
--- the linear word of a record with the polarity bit 0
-abbrev pub clearWord : ℕ → Record → List ℕ
-clearWord mode r = wordWith (informationIn mode (marked No r))
+-- the linear word of a record with the polarity bit so
+abbrev pub withBit : Flag → ℕ → Record → List ℕ
+withBit bit mode r = wordWith (informationIn mode (marked bit r))
+
+-- "sets the polarity bit only if correction is desired, and leaves it 0 otherwise": where it is desired, for an even number of zeros
+abbrev pub bitFor : Found → ℕ → Record → Flag
+bitFor Corrected mode r = cond (oddZeros (withBit No mode r)) Yes No
+bitFor Uncorrected mode r = No
 
 -- Where a word is found as it was made: a corrected one always; an uncorrected one only where its zeros, with the polarity bit 0, are odd. Where they happen to be
 -- even it is the corrected word too, and is read as that.
 abbrev pub FoundAsMade : Found → ℕ → Record → Type 0
 FoundAsMade Corrected mode r = Unit {0}
-FoundAsMade Uncorrected mode r = oddZeros (clearWord mode r) ≡ true
+FoundAsMade Uncorrected mode r = oddZeros (withBit No mode r) ≡ true
 
 -- 90 bits of a vertical interval line: `vitc::write` and `vitc::read`
 abbrev pub interval : Carrier Record
@@ -85,7 +91,7 @@ ancillary =
       Reads = λ mode words c. atc.readOf mode words ≡ Carries c;
     }
 
--- the same carrier, where what is accepted, written and read is asked of some contents only
+-- the same carrier, which accepts and writes some contents only; what is read stays, so that its laws say that nothing else is read
 abbrev pub only : {Content : Type 0} → (ℕ → Content → Type 0) → Carrier Content → Carrier Content
 only Some carrier =
     record {

@@ -19,10 +19,10 @@ pub mod StepsCounted
 -- Apart     places of an accepted word at which it has not both this bit and the next set
 -- Window    the last 80 of all the bits so far, and what a sync word at their end says of the bits before it
 -- Gaps      a false sync word among accepted words would cover a gap of one of them
--- Heeded    a word fed after any past: nothing until its 80th bit, and then its own record
+-- Heeded    a word fed after any past: nothing until its 80th bit, and then its own record with what is found
 -- Demand3   each word is reported, as itself, at its 80th bit
 -- Tight     five is tight: a false report at the fifth bit
--- Impostors one that never reports, refuses each word or reports one fixed address fails it
+-- Impostors one that never reports, refuses each word, reports one fixed address, or gives something else for each uncorrected word fails it
 pub mod Digits
 pub mod Apart
 pub mod Window

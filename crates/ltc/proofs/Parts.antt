@@ -22,7 +22,7 @@ unfolding someAbove syncWord
 sync-clean = refl
 
 module _ (info : ℕ) (low : info < 2 ^ 64) where
-  info-of-word : infoIn (wordWith info) ≡ info
+  pub info-of-word : infoIn (wordWith info) ≡ info
   info-of-word = ap value (take-at (toBits 64 info) syncWord 64 (length-toBits 64 info)) ∙ value-toBits 64 info low
 
   sync-of-word : drop 64 (wordWith info) ≡ syncWord

@@ -5,7 +5,7 @@ use mathlib.Core.Path.{_≡_, refl, _∙_, sym}
 use mathlib.Core.Bool.{Bool, true, false, cond, true≢false}
 use mathlib.Core.List.{List, [], _∷_}
 use lib.Dec.{eqb}
-use borrow.Author.Tests.{eqb-true}
+use borrow.Author.Tests.{eqb-true, eqb-false}
 use Rattle.refusals.specs.Answer.{Refusal, answer, testOf}
 use Rattle.refusals.proofs.Answered.{Clear}
 
@@ -72,3 +72,15 @@ given-at refused accepted n (row ∷ rows) before applies =
         → answer refused (row ∷ rows) accepted ≡ refused n
     go true same b this rest = rw (this, eqb-true (row .number) n same)
     go false other b later rest = rw (b .0) (rest (b .1) later)
+
+-- and where a number is given, the rows before it are clear
+pub given-before : (n : ℕ) (rows : List Refusal) → answer (λ (k : ℕ). k) rows 0 ≡ n → Clear (rowsBefore n rows)
+given-before n [] e = tt
+given-before n (row ∷ rows) e = go (eqb (row .number) n) refl (row .applies) refl e (given-before n rows)
+  where
+    go :
+        (t : Bool) → eqb (row .number) n ≡ t → (applies : Bool) → row .applies ≡ applies → cond applies (row .number) (answer (λ (k : ℕ). k) rows 0) ≡ n
+        → (answer (λ (k : ℕ). k) rows 0 ≡ n → Clear (rowsBefore n rows)) → Clear (cond t [] (row ∷ rowsBefore n rows))
+    go true same applies this given rest = tt
+    go false other true this given rest = absurd (eqb-false (row .number) n other given)
+    go false other false this given rest = (this, rest given)

@@ -1,22 +1,30 @@
--- "refused by 5 only if its zeros are odd and its polarity bit is 1".
+-- "refused by 5 only if its zeros are odd and its polarity bit is 1": there, where no number before 5 applies, and nowhere else.
 -- Assumes nothing.
 use Prim.Native.Nat.{ℕ}
 use mathlib.Core.Path.{_≡_, refl, sym, ap, _∙_}
 use mathlib.Core.Bool.{Bool, true, false, _&&_, true≢false}
 use mathlib.Core.List.{List}
+use mathlib.Core.Logic.{_↔_}
 use native.Mathlib.Omega.{arith}
-use Rattle.refusals.specs.Table.{wrong-check}
-use Rattle.refusals.specs.Answer.{answer}
+use lib.ListN.{length, drop}
+use borrow.Author.Tests.{eqb-true, eq-eqb, not-false}
+use Rattle.refusals.specs.Table.{wrong-length, unknown-mode, element-too-high, wrong-sync, wrong-check}
+use Rattle.refusals.specs.Answer.{Refusal, answer}
 use Rattle.refusals.proofs.Answered.{carried}
+use Rattle.refusals.proofs.ByNumber.{rowsBefore, clear-at, given-before}
 use Rattle.refusals.proofs.First.{given-applies}
+use Rattle.bits.specs.Bits.{someAbove}
+use Rattle.runs.specs.Run.{same}
+use Rattle.runs.proofs.Same.{same-itself, same-elements}
 use Rattle.rates.specs.declared.types.Flag.{Flag}
 use Rattle.rates.specs.declared.types.Flag.the-variants.{No, Yes}
 use Rattle.rates.specs.Rates.{isYes}
 use Rattle.record.specs.Record.{marked}
+use Rattle.modes.specs.Modes.{unknown}
 use Rattle.modes.specs.Calls.{recordIn}
 use Rattle.polarity.specs.declared.types.Word.{Word}
 use Rattle.polarity.specs.declared.types.Word.the-variants.{Holds, Refused}
-use Rattle.polarity.specs.Word.{infoIn, oddZeros, polarityBit, foundIn}
+use Rattle.polarity.specs.Word.{syncWord, infoIn, oddZeros, polarityBit, foundIn}
 use Rattle.ltc.specs.Calls.{readRefusals, readOf}
 use Rattle.ltc.proofs.Rows.{read-rows-in-order}
 
@@ -30,10 +38,39 @@ both true Yes e = (refl, refl)
 both true No e = absurd (true≢false (sym e))
 both false bit e = absurd (true≢false (sym e))
 
-pub five-only : (mode : ℕ) (word : List ℕ) → readOf mode word ≡ Refused wrong-check → (oddZeros word ≡ true) × (polarityBit mode (infoIn word) ≡ Yes)
-unfolding readOf numberIn
-five-only mode word e =
-    let rows = readRefusals mode word in
-    let given : answer (λ (k : ℕ). k) rows 0 ≡ wrong-check =
-    sym (carried numberIn Refused (Holds (marked No (recordIn mode (infoIn word))) (foundIn word)) rows) ∙ ap numberIn e in
-    both (oddZeros word) (polarityBit mode (infoIn word)) (given-applies wrong-check (omega arith) rows (read-rows-in-order mode word) given)
+-- 80 bits that end in the sync word, in a mode that is known: their zeros odd, and their polarity bit 1
+abbrev Miscorrected : ℕ → List ℕ → Type 0
+Miscorrected mode word =
+    (length word ≡ 80) × (unknown mode ≡ false) × (someAbove 1 word ≡ false) × (drop 64 word ≡ syncWord)
+    × (oddZeros word ≡ true) × (polarityBit mode (infoIn word) ≡ Yes)
+
+module _ (mode : ℕ) (word : List ℕ) where
+  abbrev rows : List Refusal
+  rows = readRefusals mode word
+
+  abbrev before : List Refusal
+  before = rowsBefore wrong-check rows
+
+  there : readOf mode word ≡ Refused wrong-check → Miscorrected mode word
+  unfolding readOf numberIn
+  there e =
+      let given : answer (λ (k : ℕ). k) rows 0 ≡ wrong-check =
+      sym (carried numberIn Refused (Holds (marked No (recordIn mode (infoIn word))) (foundIn word)) rows) ∙ ap numberIn e in
+      let clear = given-before wrong-check rows given in
+      let set = both (oddZeros word) (polarityBit mode (infoIn word)) (given-applies wrong-check (omega arith) rows (read-rows-in-order mode word) given) in (
+        eqb-true (length word) 80 (not-false _ (clear-at wrong-length before clear)),
+        clear-at unknown-mode before clear,
+        clear-at element-too-high before clear,
+        same-elements (drop 64 word) syncWord (not-false _ (clear-at wrong-sync before clear)),
+        set .0,
+        set .1,
+      )
+
+  back : Miscorrected mode word → readOf mode word ≡ Refused wrong-check
+  unfolding readOf
+  back m =
+      let sync : same (drop 64 word) syncWord ≡ true = rw (m .3) (same-itself syncWord) in
+      rw (eq-eqb (length word) 80 (m .0), m .1, m .2, sync, m .4, m .5)
+
+  pub five-exactly : (readOf mode word ≡ Refused wrong-check) ↔ Miscorrected mode word
+  five-exactly = (there, back)

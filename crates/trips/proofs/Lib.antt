@@ -7,7 +7,7 @@ pub mod ByMode
 -- Linear words:
 -- Polarity   what is made corrected has even zeros, and what is found says which of the two values of the polarity bit was made
 -- Words      what was written reads as its record, and what was read, written again by what was found, is the same
--- Five       5 is given only where the zeros are odd and the polarity bit is 1
+-- Five       5 is given exactly where the zeros are odd and the polarity bit is 1, and no number before 5 applies
 pub mod Polarity
 pub mod Words
 pub mod Five

@@ -20,6 +20,7 @@ use Rattle.runs.specs.declared.types.Written.the-variants.{Done}
 use Rattle.runs.specs.Run.{placed}
 use Rattle.runs.proofs.Same.{same-elements}
 use Rattle.runs.proofs.Written.{done-clear, clear-done, stored, stored-reads, has-room, room-for}
+use Rattle.rates.specs.declared.types.Flag.{Flag}
 use Rattle.rates.specs.declared.types.Flag.the-variants.{No, Yes}
 use Rattle.rates.specs.Face.{outside}
 use Rattle.rates.specs.Rates.{isYes, framesInSecond}
@@ -43,7 +44,7 @@ use Rattle.polarity.proofs.Heard.{withFound, heard-is}
 use Rattle.ltc.proofs.Sync.{low-length, above-in-parts, word-is}
 use Rattle.ltc.proofs.Words.{word-length}
 use Rattle.ltc.proofs.Evened.{is-no, marked-same}
-use Rattle.ltc.proofs.Parts.{read-is-heard}
+use Rattle.ltc.proofs.Parts.{info-of-word, read-is-heard}
 use Rattle.trips.proofs.Polarity.{evened, polarity, only-polarity}
 
 -- a record that is clear of refusals makes its bits
@@ -54,6 +55,16 @@ clear-packs mode r clear = otherwise-accepted Unpackable (Bits (informationIn mo
 -- a record that a linear word can hold: the record's list clears it, and its mark is no
 abbrev pub Acceptable : ℕ → Record → Type 0
 Acceptable mode r = Clear (withMode mode (writeRefusalsIn mode r)) × (r .flags .mark ≡ No)
+
+-- the polarity bit of a record's word is the mark that it was packed with
+pub bit-of-word :
+    (mode : ℕ) (r : Record) → Clear (withMode mode (writeRefusalsIn mode r)) → (bit : Flag)
+    → polarityBit mode (infoIn (wordWith (informationIn mode (marked bit r)))) ≡ bit
+unfolding recordOf
+bit-of-word mode r clear bit =
+    let fits = writable (rateAt mode) r (clear-from outside-the-clock (withMode mode (writeRefusalsIn mode r)) clear) in
+    let low = info-below (rateAt mode) (marked bit r) fits in
+    ap (polarityBit mode) (info-of-word (informationIn mode (marked bit r)) low) ∙ ap (λ (s : Record). s .flags .mark) (read-back (rateAt mode) (marked bit r) fits)
 
 module _ (mode : ℕ) (r : Record) (ok : Acceptable mode r) where
   fits : Writable (r .address) (r .groups)
