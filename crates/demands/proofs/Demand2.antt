@@ -32,7 +32,7 @@ use Rattle.trips.proofs.Numbers.{one-to-one}
 use Rattle.polarity.specs.declared.types.Found.{Found}
 use Rattle.polarity.specs.declared.types.Found.the-variants.{Corrected, Uncorrected}
 use Rattle.polarity.specs.declared.types.Word.the-variants.{Holds as Read, Refused as Unread}
-use Rattle.polarity.specs.Word.{syncWord, wordWith, infoIn, oddZeros, polarityBit, foundIn, wordOf}
+use Rattle.polarity.specs.Word.{syncWord, wordWith, oddZeros, polarityBit, foundIn, wordOf}
 use Rattle.ltc.specs.Calls.{readOf}
 use Rattle.trips.proofs.Polarity.{odd-found}
 use Rattle.trips.proofs.Five.{five-exactly}
@@ -199,7 +199,7 @@ pub linear-refused-by-5 :
     (mode : ℕ) (word : List ℕ)
     → (readOf mode word ≡ Unread wrong-check)
     ↔ ((length word ≡ 80) × (unknown mode ≡ false) × (someAbove 1 word ≡ false) × (drop 64 word ≡ syncWord)
-    × (oddZeros word ≡ true) × (polarityBit mode (infoIn word) ≡ Yes))
+    × (oddZeros word ≡ true) × (polarityBit (rateAt mode) word ≡ Yes))
 linear-refused-by-5 = five-exactly
 
 -- "corrected when the zeros are even, uncorrected when they are odd".
@@ -215,7 +215,7 @@ pub linear-leaves :
 linear-leaves make mode r start run done = ltc.done-leaves mode r make start run done ∙ ap (λ (word : List ℕ). placed start word run) (word-by-bit make mode r)
 
 -- and that is its polarity bit
-pub linear-bit : (bit : Flag) (mode : ℕ) (r : Record) → Acceptable mode r → polarityBit mode (infoIn (withBit bit mode r)) ≡ bit
+pub linear-bit : (bit : Flag) (mode : ℕ) (r : Record) → Acceptable mode r → polarityBit (rateAt mode) (withBit bit mode r) ≡ bit
 linear-bit bit mode r ok = ltc.bit-of-word mode r (acceptable-exactly mode r .1 ok) bit
 
 -- "Reading back a written word gives its record": whichever was made, with what its zeros say was found. Shut out, with the above: a reader that refuses each

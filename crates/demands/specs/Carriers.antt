@@ -54,7 +54,7 @@ linear make =
 abbrev pub withBit : Flag → ℕ → Record → List ℕ
 withBit bit mode r = wordWith (informationIn mode (marked bit r))
 
--- "sets the polarity bit only if correction is desired, and leaves it 0 otherwise": where it is desired, for an even number of zeros
+-- "sets the polarity bit only if correction is desired, and leaves it 0 otherwise": where it is desired, it is set where the zeros would else be odd
 abbrev pub bitFor : Found → ℕ → Record → Flag
 bitFor Corrected mode r = cond (oddZeros (withBit No mode r)) Yes No
 bitFor Uncorrected mode r = No

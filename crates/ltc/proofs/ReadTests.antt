@@ -17,10 +17,10 @@ use Rattle.runs.specs.Gather.{gatheredOf}
 use Rattle.runs.specs.Run.{same}
 use Rattle.runs.proofs.types.Gathered.{the-type}
 use Rattle.runs.proofs.Same.{same-itself, gathered-is, not-gathered}
-use Rattle.modes.specs.Modes.{unknown}
+use Rattle.modes.specs.Modes.{unknown, rateAt}
 use Rattle.polarity.specs.declared.types.Word.{Word}
 use Rattle.polarity.specs.declared.types.Word.the-variants.{Refused}
-use Rattle.polarity.specs.Word.{syncWord, infoIn, wordWith, oddZeros}
+use Rattle.polarity.specs.Word.{syncWord, oddZeros, miscorrected}
 use Rattle.polarity.specs.Heard.{heardOf}
 use Rattle.ltc.specs.Calls.{readOf}
 use Rattle.ltc.proofs.Sync.{low-length, high-length, above-in-parts, sync-by-number, other-sync, word-is}
@@ -90,5 +90,6 @@ module _ (mode : ℕ) (word : List ℕ) where
             let whole = word-is word long (low-is .0) (high-is .0) (sym (high-is .1) ∙ e) in
             let seen : same (drop 64 word) syncWord ≡ true =
             rw (sync-by-number word long (low-is .0) (high-is .0) (sym (high-is .1) ∙ e)) (same-itself syncWord) in
-            let odd : oddZeros word ≡ oddZeros (wordWith (infoIn word)) = ap oddZeros whole in
-            told ∙ rw (low-is .1, eq-eqb (length word) 80 long, known, clean, seen, odd)
+            let wrong = ap (miscorrected (rateAt mode)) whole in
+            let odd = ap oddZeros whole in
+            told ∙ rw (low-is .1, eq-eqb (length word) 80 long, known, clean, seen, wrong, odd)

@@ -1,7 +1,7 @@
 -- What each call on linear words answers: its refusals in the table's order, and then what is accepted.
 -- Assumes nothing.
 use Prim.Native.Nat.{ℕ}
-use mathlib.Core.Bool.{not, _&&_}
+use mathlib.Core.Bool.{not}
 use mathlib.Core.List.{List, [], _∷_, _++_}
 use lib.Dec.{eqb}
 use lib.ListN.{length, drop}
@@ -15,11 +15,11 @@ use Rattle.record.specs.declared.types.Record.{Record}
 use Rattle.record.specs.Record.{marked}
 use Rattle.runs.specs.declared.types.Written.{Written}
 use Rattle.modes.specs.Calls.{recordIn, bitsRefusalsIn, writeRefusalsIn}
-use Rattle.modes.specs.Modes.{unknown, withMode}
+use Rattle.modes.specs.Modes.{unknown, rateAt, withMode}
 use Rattle.polarity.specs.declared.types.Found.{Found}
 use Rattle.polarity.specs.declared.types.Word.{Word}
 use Rattle.polarity.specs.declared.types.Word.the-variants.{Holds, Refused}
-use Rattle.polarity.specs.Word.{syncWord, infoIn, oddZeros, polarityBit, foundIn, wordOf}
+use Rattle.polarity.specs.Word.{syncWord, infoIn, miscorrected, foundIn, wordOf}
 
 -- reading: 1 not exactly 80 elements; 2 a mode that is unknown; 3 an element above 1; 4 another sync word; 5 "only if its zeros are odd and its polarity
 -- bit is 1"; then the record's
@@ -29,7 +29,7 @@ readRefusals mode word =
     ∷ (unknown-mode when unknown mode)
     ∷ (element-too-high when someAbove 1 word)
     ∷ (wrong-sync when not (same (drop 64 word) syncWord))
-    ∷ (wrong-check when (oddZeros word && isYes (polarityBit mode (infoIn word))))
+    ∷ (wrong-check when miscorrected (rateAt mode) word)
     ∷ bitsRefusalsIn mode (infoIn word)
 
 -- the record with mark 0, and what was found

@@ -22,7 +22,7 @@ fn store(info: u64, word: &mut [u8])
     runs::scatter(0xbffc, &mut word[64..80]);
 }
 
-// "Writing is told which to make": of the information bits with the polarity bit 0, those that are written.
+// "Writing is told which to make": the information bits that are written, told from those with the polarity bit 0.
 fn made(rate: Rate, make: Found, clear: u64) -> u64
     requires { ⌜ clear + 2 ^ places rate .mark < 2 ^ 64 ⌝ }
     ensures { λ n. ⌜ n ≡ made make clear (clear + 2 ^ places rate .mark) ⌝ }
@@ -47,8 +47,8 @@ pub fn write(mode: u8, r: Record, make: Found, start: usize, run: &mut [u8]) -> 
     let Rated::Known(rate) = modes::rate_of(mode) else {
         return Written::Refused(refusals::UNKNOWN_MODE);
     };
-    let found = record::to_bits(rate, r);
-    match found {
+    let packed = record::to_bits(rate, r);
+    match packed {
         Packed::Refused(number) => Written::Refused(number),
         Packed::Bits(clear) => {
             if rates::is_yes(mark) {

@@ -2,19 +2,18 @@
 -- Assumes nothing.
 use Prim.Native.Nat.{ℕ}
 use mathlib.Core.Path.{_≡_, sym}
-use mathlib.Core.Bool.{false, _&&_}
+use mathlib.Core.Bool.{false}
 use Rattle.refusals.proofs.Answered.{carried}
 use Rattle.rates.specs.declared.types.Flag.the-variants.{No}
-use Rattle.rates.specs.Rates.{isYes}
 use Rattle.record.specs.declared.types.Unpacked.{Unpacked}
 use Rattle.record.specs.declared.types.Unpacked.the-variants.{Holds as Held, Refused as Unheld}
 use Rattle.record.specs.Record.{marked}
 use Rattle.modes.specs.Calls.{recordIn, bitsRefusalsIn, unpackedIn}
-use Rattle.modes.specs.Modes.{withMode}
+use Rattle.modes.specs.Modes.{rateAt, withMode}
 use Rattle.polarity.specs.declared.types.Found.{Found}
 use Rattle.polarity.specs.declared.types.Word.{Word}
 use Rattle.polarity.specs.declared.types.Word.the-variants.{Holds, Refused}
-use Rattle.polarity.specs.Word.{wordWith, oddZeros, polarityBit, foundIn}
+use Rattle.polarity.specs.Word.{wordWith, miscorrected, foundIn}
 use Rattle.polarity.specs.Heard.{heardOf}
 
 -- what the record says, the mark taken off, with what was found
@@ -22,9 +21,9 @@ abbrev pub withFound : Found → Unpacked → Word
 withFound found (Held r) = Holds (marked No r) found
 withFound found (Unheld n) = Refused n
 
--- where the zeros are not odd with the polarity bit set, bits are heard as that
+-- bits that 5 does not refuse are heard as that
 pub heard-is :
-    (mode info : ℕ) → (oddZeros (wordWith info) && isYes (polarityBit mode info)) ≡ false
+    (mode info : ℕ) → miscorrected (rateAt mode) (wordWith info) ≡ false
     → heardOf mode info ≡ withFound (foundIn (wordWith info)) (unpackedIn mode info)
 unfolding heardOf unpackedIn
 heard-is mode info right =

@@ -2,17 +2,18 @@
 -- A1: the standard "sets the polarity bit only if correction is desired, and leaves it 0 otherwise".
 -- Assumes nothing.
 use Prim.Native.Nat.{ℕ, _%_}
-use mathlib.Core.Bool.{Bool, cond}
+use mathlib.Core.Bool.{Bool, _&&_, cond}
 use mathlib.Core.List.{List, [], _∷_, _++_}
 use lib.Dec.{eqb}
 use lib.ListN.{take}
 use Rattle.bits.specs.Bits.{value, toBits, zerosIn}
 use Rattle.rates.specs.declared.types.Flag.{Flag}
 use Rattle.rates.specs.declared.types.Flag.the-variants.{No, Yes}
+use Rattle.rates.specs.declared.types.Rate.{Rate}
+use Rattle.rates.specs.Rates.{isYes}
 use Rattle.layout.specs.Flags.{flagAt, places}
 use Rattle.record.specs.declared.types.Record.{Record}
 use Rattle.record.specs.Record.{marked}
-use Rattle.modes.specs.Modes.{rateAt}
 use Rattle.modes.specs.Calls.{informationIn}
 use Rattle.polarity.specs.declared.types.Found.{Found}
 use Rattle.polarity.specs.declared.types.Found.the-variants.{Corrected, Uncorrected}
@@ -32,8 +33,12 @@ unfoldable pub oddZeros : List ℕ → Bool
 oddZeros word = eqb (zerosIn word % 2) 1
 
 -- "The mark is the polarity bit on LTC": it stands at the mark's place
-abbrev pub polarityBit : ℕ → ℕ → Flag
-polarityBit mode info = flagAt (places (rateAt mode) .mark) info
+abbrev pub polarityBit : Rate → List ℕ → Flag
+polarityBit rate word = flagAt (places rate .mark) (infoIn word)
+
+-- "its zeros are odd and its polarity bit is 1"
+abbrev pub miscorrected : Rate → List ℕ → Bool
+miscorrected rate word = oddZeros word && isYes (polarityBit rate word)
 
 -- "Reading tells which was found: corrected when the zeros are even, uncorrected when they are odd."
 abbrev pub foundIn : List ℕ → Found

@@ -1,11 +1,8 @@
 // The zeros of a word and its polarity bit: the sync word has three zeros and thirteen ones.
 ghost use mathlib.Core.Path.{_≡_};
-ghost use mathlib.Core.Bool.{_&&_};
 ghost use Rattle.rates.specs.declared.types.Flag.the-variants.{No};
-ghost use Rattle.rates.specs.Rates.{isYes};
-ghost use Rattle.layout.specs.Flags.{flagAt, places};
 ghost use Rattle.record.specs.Record.{marked};
-ghost use Rattle.polarity.specs.Word.{wordWith, oddZeros, foundIn};
+ghost use Rattle.polarity.specs.Word.{wordWith, oddZeros, miscorrected, foundIn};
 use crate::types::Found;
 use rates::Flag;
 use rates::Rate;
@@ -31,7 +28,7 @@ pub fn found_in(info: u64) -> Found
 
 // "its zeros are odd and its polarity bit is 1".
 pub fn is_miscorrected(rate: Rate, info: u64) -> bool
-    ensures { λ r. ⌜ r ≡ (oddZeros (wordWith info) && isYes (flagAt (places rate .mark) info)) ⌝ }
+    ensures { λ r. ⌜ r ≡ miscorrected rate (wordWith info) ⌝ }
 {
     let value = layout::mark_value(rate);
     let polarity = layout::flag(info / value % 2);

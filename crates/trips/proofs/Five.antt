@@ -20,7 +20,7 @@ use Rattle.rates.specs.declared.types.Flag.{Flag}
 use Rattle.rates.specs.declared.types.Flag.the-variants.{No, Yes}
 use Rattle.rates.specs.Rates.{isYes}
 use Rattle.record.specs.Record.{marked}
-use Rattle.modes.specs.Modes.{unknown}
+use Rattle.modes.specs.Modes.{unknown, rateAt}
 use Rattle.modes.specs.Calls.{recordIn}
 use Rattle.polarity.specs.declared.types.Word.{Word}
 use Rattle.polarity.specs.declared.types.Word.the-variants.{Holds, Refused}
@@ -42,7 +42,7 @@ both false bit e = absurd (true≢false (sym e))
 abbrev Miscorrected : ℕ → List ℕ → Type 0
 Miscorrected mode word =
     (length word ≡ 80) × (unknown mode ≡ false) × (someAbove 1 word ≡ false) × (drop 64 word ≡ syncWord)
-    × (oddZeros word ≡ true) × (polarityBit mode (infoIn word) ≡ Yes)
+    × (oddZeros word ≡ true) × (polarityBit (rateAt mode) word ≡ Yes)
 
 module _ (mode : ℕ) (word : List ℕ) where
   abbrev rows : List Refusal
@@ -57,7 +57,7 @@ module _ (mode : ℕ) (word : List ℕ) where
       let given : answer (λ (k : ℕ). k) rows 0 ≡ wrong-check =
       sym (carried numberIn Refused (Holds (marked No (recordIn mode (infoIn word))) (foundIn word)) rows) ∙ ap numberIn e in
       let clear = given-before wrong-check rows given in
-      let set = both (oddZeros word) (polarityBit mode (infoIn word)) (given-applies wrong-check (omega arith) rows (read-rows-in-order mode word) given) in (
+      let set = both (oddZeros word) (polarityBit (rateAt mode) word) (given-applies wrong-check (omega arith) rows (read-rows-in-order mode word) given) in (
         eqb-true (length word) 80 (not-false _ (clear-at wrong-length before clear)),
         clear-at unknown-mode before clear,
         clear-at element-too-high before clear,

@@ -24,6 +24,7 @@ use Rattle.rates.specs.declared.types.Flag.{Flag}
 use Rattle.rates.specs.declared.types.Flag.the-variants.{No, Yes}
 use Rattle.rates.specs.Face.{outside}
 use Rattle.rates.specs.Rates.{isYes, framesInSecond}
+use Rattle.layout.specs.Flags.{flagAt, places}
 use Rattle.record.specs.declared.types.Record.{Record}
 use Rattle.record.specs.declared.types.Unpacked.the-variants.{Holds as Held}
 use Rattle.record.specs.Record.{digitAbove9, recordOf, marked}
@@ -38,13 +39,14 @@ use Rattle.polarity.specs.declared.types.Found.{Found}
 use Rattle.polarity.specs.declared.types.Found.the-variants.{Corrected}
 use Rattle.polarity.specs.declared.types.Word.{Word}
 use Rattle.polarity.specs.declared.types.Word.the-variants.{Holds, Refused}
-use Rattle.polarity.specs.Word.{syncWord, wordWith, infoIn, oddZeros, polarityBit, foundIn, made, wordOf}
+use Rattle.polarity.specs.Word.{syncWord, wordWith, infoIn, oddZeros, polarityBit, miscorrected, foundIn, made, wordOf}
+use Rattle.polarity.proofs.Zeros.{info-of-word}
 use Rattle.ltc.specs.Calls.{readRefusals, readOf, writtenRows, writtenOf, runOf}
 use Rattle.polarity.proofs.Heard.{withFound, heard-is}
 use Rattle.ltc.proofs.Sync.{low-length, above-in-parts, word-is}
 use Rattle.ltc.proofs.Words.{word-length}
 use Rattle.ltc.proofs.Evened.{is-no, marked-same}
-use Rattle.ltc.proofs.Parts.{info-of-word, read-is-heard}
+use Rattle.ltc.proofs.Parts.{read-is-heard}
 use Rattle.trips.proofs.Polarity.{evened, polarity, only-polarity}
 
 -- a record that is clear of refusals makes its bits
@@ -59,12 +61,12 @@ Acceptable mode r = Clear (withMode mode (writeRefusalsIn mode r)) × (r .flags 
 -- the polarity bit of a record's word is the mark that it was packed with
 pub bit-of-word :
     (mode : ℕ) (r : Record) → Clear (withMode mode (writeRefusalsIn mode r)) → (bit : Flag)
-    → polarityBit mode (infoIn (wordWith (informationIn mode (marked bit r)))) ≡ bit
+    → polarityBit (rateAt mode) (wordWith (informationIn mode (marked bit r))) ≡ bit
 unfolding recordOf
 bit-of-word mode r clear bit =
     let fits = writable (rateAt mode) r (clear-from outside-the-clock (withMode mode (writeRefusalsIn mode r)) clear) in
     let low = info-below (rateAt mode) (marked bit r) fits in
-    ap (polarityBit mode) (info-of-word (informationIn mode (marked bit r)) low) ∙ ap (λ (s : Record). s .flags .mark) (read-back (rateAt mode) (marked bit r) fits)
+    ap (flagAt (places (rateAt mode) .mark)) (info-of-word (informationIn mode (marked bit r)) low) ∙ ap (λ (s : Record). s .flags .mark) (read-back (rateAt mode) (marked bit r) fits)
 
 module _ (mode : ℕ) (r : Record) (ok : Acceptable mode r) where
   fits : Writable (r .address) (r .groups)
@@ -80,8 +82,9 @@ module _ (mode : ℕ) (r : Record) (ok : Acceptable mode r) where
       let low : info < 2 ^ 64 = rw (bit .1) (info-below (rateAt mode) set fits) in
       let packed : packedIn mode set ≡ Bits info = rw (bit .1) (clear-packs mode set (ok .0)) in
       let held : unpackedIn mode info ≡ Held set = one-to-one mode info set low .0 packed in
-      let mark : polarityBit mode info ≡ bit .0 = ap (λ (s : Record). s .flags .mark) (ap (recordIn mode) (bit .1) ∙ read-back (rateAt mode) set fits) in
-      let right : (oddZeros (wordWith info) && isYes (polarityBit mode info)) ≡ false = rw mark (bit .2) in
+      let mark : polarityBit (rateAt mode) (wordWith info) ≡ bit .0 =
+      ap (λ (n : ℕ). polarityBit (rateAt mode) (wordWith n)) (bit .1) ∙ bit-of-word mode r (ok .0) (bit .0) in
+      let right : miscorrected (rateAt mode) (wordWith info) ≡ false = rw mark (bit .2) in
       read-is-heard info low mode
       ∙ heard-is mode info right
       ∙ ap (withFound (foundIn (wordWith info))) held

@@ -10,7 +10,8 @@ use Rattle.rates.specs.declared.types.Rate.{Rate}
 use Rattle.rates.specs.declared.types.Rate.the-variants.{At24, At25, At30}
 use Rattle.rates.specs.Rates.{isYes}
 use Rattle.layout.specs.Flags.{flagOf, flagAt, places}
-use Rattle.polarity.specs.Word.{wordWith, oddZeros}
+use Rattle.polarity.specs.Word.{wordWith, oddZeros, miscorrected}
+use Rattle.polarity.proofs.Zeros.{info-of-word}
 use Rattle.polarity.proofs.even.is_miscorrected.Statement.{statement}
 use Rattle.polarity.proofs.even.is_miscorrected.Tie as tie
 
@@ -26,9 +27,9 @@ some At25 value is = omega arith
 some At30 value is = omega arith
 
 both :
-    (rate : Rate) (info value : ℕ) → value ≡ 2 ^ places rate .mark → (polarity : Flag) → polarity ≡ flagOf (info / value % 2) → (odd mark : Bool)
-    → odd ≡ oddZeros (wordWith info) → mark ≡ isYes polarity → (odd && mark) ≡ (oddZeros (wordWith info) && isYes (flagAt (places rate .mark) info))
-both rate info value is polarity looked odd mark counted set = rw (counted, set, looked, brought-down rate info value is)
+    (rate : Rate) (info value : ℕ) → info < 2 ^ 64 → value ≡ 2 ^ places rate .mark → (polarity : Flag) → polarity ≡ flagOf (info / value % 2)
+    → (odd mark : Bool) → odd ≡ oddZeros (wordWith info) → mark ≡ isYes polarity → (odd && mark) ≡ miscorrected rate (wordWith info)
+both rate info value low is polarity looked odd mark counted set = rw (counted, set, looked, brought-down rate info value is, info-of-word info low)
 
 mark-value-requires : tie.Need-mark-value-requires
 mark-value-requires c κs = search needs

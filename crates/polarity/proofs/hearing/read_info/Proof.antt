@@ -1,13 +1,11 @@
 -- `polarity::hearing::read_info` meets its contract: odd zeros with the polarity bit set are refused, and else the record answers, its mark taken off.
 -- Assumes nothing.
 use mathlib.Core.Path.{_≡_, ap, ap₂, sym, _∙_}
-use mathlib.Core.Bool.{Bool, true, false, _&&_}
+use mathlib.Core.Bool.{Bool, true, false}
 use Prim.Native.Nat.{ℕ}
 use borrow.Author.Needs.{needs}
 use Rattle.rates.specs.declared.types.Flag.the-variants.{No}
 use Rattle.rates.specs.declared.types.Rate.{Rate}
-use Rattle.rates.specs.Rates.{isYes}
-use Rattle.layout.specs.Flags.{flagAt, places}
 use Rattle.record.specs.declared.types.Record.{Record}
 use Rattle.record.specs.declared.types.Unpacked.{Unpacked}
 use Rattle.record.specs.declared.types.Unpacked.the-variants.{Holds as Held, Refused as Unheld}
@@ -19,7 +17,7 @@ use Rattle.modes.specs.Calls.{unpackedIn}
 use Rattle.modes.proofs.ByRate.{rate-told, rate-refused}
 use Rattle.polarity.specs.declared.types.Found.{Found}
 use Rattle.polarity.specs.declared.types.Word.the-variants.{Holds, Refused}
-use Rattle.polarity.specs.Word.{wordWith, oddZeros, polarityBit, foundIn}
+use Rattle.polarity.specs.Word.{wordWith, miscorrected, foundIn}
 use Rattle.polarity.specs.Heard.{heardOf}
 use Rattle.polarity.proofs.Heard.{withFound, heard-is}
 use Rattle.polarity.proofs.hearing.read_info.Statement.{statement}
@@ -34,13 +32,13 @@ module _ (mode info : ℕ) (rated : Rated) (named : rated ≡ ratedOf mode) wher
     own : (unknown mode ≡ false) × (rateAt mode ≡ rate)
     own = rate-told mode rated named rate is
 
-    module _ (wrong : Bool) (tested : wrong ≡ (oddZeros (wordWith info) && isYes (flagAt (places rate .mark) info))) where
-      in-mode : wrong ≡ (oddZeros (wordWith info) && isYes (polarityBit mode info))
-      in-mode = tested ∙ ap (λ (k : Rate). oddZeros (wordWith info) && isYes (flagAt (places k .mark) info)) (sym (own .1))
+    module _ (wrong : Bool) (tested : wrong ≡ miscorrected rate (wordWith info)) where
+      in-mode : wrong ≡ miscorrected (rateAt mode) (wordWith info)
+      in-mode = tested ∙ ap (λ (k : Rate). miscorrected k (wordWith info)) (sym (own .1))
 
-      miscorrected : wrong ≡ true → Refused 5 ≡ heardOf mode info
+      by-5 : wrong ≡ true → Refused 5 ≡ heardOf mode info
       unfolding heardOf
-      miscorrected e = rw (own .0, ← in-mode, e)
+      by-5 e = rw (own .0, ← in-mode, e)
 
       module _ (right : wrong ≡ false) (held : Unpacked) (told : held ≡ unpackedIn mode info) where
         heard : withFound (foundIn (wordWith info)) held ≡ heardOf mode info
@@ -69,7 +67,7 @@ is-miscorrected-requires : tie.Need-is-miscorrected-requires
 is-miscorrected-requires c κs = search needs
 
 returns-2 : tie.Need-returns-2
-returns-2 c = search miscorrected
+returns-2 c = search by-5
 
 from-bits-requires : tie.Need-from-bits-requires
 from-bits-requires c κs = search needs
