@@ -3,7 +3,7 @@
 use Prim.Native.Nat.{ℕ, zero, suc, _/_, _%_, _≤_}
 use mathlib.Core.Path.{_≡_, refl, sym, ap, _∙_}
 use mathlib.Core.Bool.{false, _||_, or-assoc}
-use mathlib.Core.List.{List, [], _∷_, _++_}
+use mathlib.Core.List.{List, [], _∷_, _++_, reverse, reverse-cons}
 use native.Mathlib.Omega.{arith}
 use lib.Dec.{ltb}
 use lib.ListN.{length, take, drop}
@@ -54,3 +54,14 @@ above-append limit (x ∷ xs) ys = rw (above-append limit xs ys) (sym (or-assoc 
 pub within-append :
     (limit : ℕ) (xs ys : List ℕ) → someAbove limit xs ≡ false → someAbove limit ys ≡ false → someAbove limit (xs ++ ys) ≡ false
 within-append limit xs ys p q = above-append limit xs ys ∙ rw (p, q)
+
+-- turned round, a list has the same elements
+pub within-reverse : (limit : ℕ) (elements : List ℕ) → someAbove limit elements ≡ false → someAbove limit (reverse elements) ≡ false
+unfolding someAbove
+within-reverse limit [] within = refl
+within-reverse limit (element ∷ elements) within =
+    let small = head-within limit element elements within in
+    rw (reverse-cons element elements)
+    (within-append limit (reverse elements) (element ∷ [])
+    (within-reverse limit elements (tail-within limit element elements within))
+    (within-cons limit element [] small refl))

@@ -12,8 +12,8 @@ use borrow.Author.Tests.{le-ltb}
 use Rattle.bits.specs.Bits.{AllBits}
 use Rattle.bits.proofs.Bit.{head-within, tail-within}
 use Rattle.register.specs.declared.types.Reader.{Reader}
-use Rattle.reader.specs.declared.types.Heard.{Heard}
-use Rattle.reader.specs.declared.types.Heard.the-variants.{Nothing, Accepted, Refused}
+use Rattle.hearing.specs.declared.types.Heard.{Heard}
+use Rattle.hearing.specs.declared.types.Heard.the-variants.{Nothing, Accepted, Refused}
 use Rattle.reader.specs.declared.types.Blocked.{Blocked}
 use Rattle.reader.specs.Steps.{steppedOf}
 use Rattle.reader.specs.Blocks.{isAnswer, oneMore, going}

@@ -9,7 +9,7 @@ use lib.ListN.{length, drop}
 use Rattle.bits.specs.Bits.{AllBits}
 use Rattle.modes.specs.Modes.{unknown}
 use Rattle.register.specs.declared.types.Reader.{Reader}
-use Rattle.reader.specs.declared.types.Heard.{Heard}
+use Rattle.hearing.specs.declared.types.Heard.{Heard}
 use Rattle.following.specs.Reach.{fed, answers, Reached}
 use Rattle.following.specs.Cuts.{said, Cut, cutBlock, inBlocks, AllOpen}
 use Rattle.reader.specs.Feeding.{Passing}

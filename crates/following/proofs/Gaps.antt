@@ -1,22 +1,20 @@
--- Wherever a false sync word could end in a row of accepted words, its twelve ones would cover one of the gaps of an accepted word.
+-- The sync word's twelve ones, wherever else they lay over an accepted word, would cover one of its gaps.
 -- Assumes nothing.
 use Prim.Native.Nat.{ℕ, zero, suc, _+_, _-_, _<_, _≤_}
-use mathlib.Core.Path.{_≡_, refl, sym, subst, _∙_}
+use mathlib.Core.Path.{_≡_, refl, sym, ap, subst, _∙_}
 use mathlib.Core.Bool.{Bool, true, false, _&&_, _||_, false≢true}
-use mathlib.Core.List.{List, [], _∷_, _++_, append-assoc}
+use mathlib.Core.List.{List, [], _∷_}
+use mathlib.Core.Logic.{_⊎_, inl, inr, ⊎-elim}
 use native.Mathlib.Omega.{arith}
-use lib.Dec.{ltb}
-use lib.ListN.{length, getD, drop, length-append, List·getD-append}
-use borrow.Author.Tests.{ltb-true, ltb-false}
+use lib.Dec.{ltb, eqb}
+use lib.ListN.{getD}
+use borrow.Author.Tests.{ltb-true, ltb-false, eqb-true, eqb-false}
 use Rattle.bits.specs.Bits.{someAbove}
 use Rattle.bits.proofs.Bit.{head-within, tail-within}
 use Rattle.bits.proofs.Neighbours.{Each}
 use Rattle.runs.proofs.Same.{both-true}
 use Rattle.following.proofs.Apart.{gaps, NotBoth}
-use Rattle.polarity.specs.Word.{syncWord}
-use Rattle.register.specs.Held.{latest}
-use Rattle.following.specs.Following.{settled}
-use Rattle.following.proofs.Window.{ones-before}
+use Rattle.following.proofs.Turned.{Over}
 
 -- twelve ones that end two bits before the k-th cover one of these places and the next
 abbrev covers : ℕ → List ℕ → Bool
@@ -41,6 +39,14 @@ covered (suc n) from all k low high = go (ltb from k) refl (covered n (suc from)
         let same : from ≡ k = omega arith in
         subst (λ (j : ℕ). covers j gaps ≡ true) same first
 
+-- not 80 is less or more
+apart-from : (k : ℕ) → (k ≡ 80 → ⊥) → (k < 80) ⊎ (80 < k)
+apart-from k other = go (ltb k 80) refl
+  where
+    go : (t : Bool) → ltb k 80 ≡ t → (k < 80) ⊎ (80 < k)
+    go true t = inl (ltb-true k 80 t)
+    go false t = let high = ltb-false k 80 t in inr (omega arith)
+
 -- ones at every place that twelve ones cover, and a word that has not both: no such word
 covers-none :
     (word : List ℕ) (k : ℕ) (places : List ℕ) → Each (NotBoth word) places → someAbove 77 places ≡ false → covers k places ≡ true
@@ -60,31 +66,38 @@ covers-none word k (place ∷ places) apart within covering ones = go (ltb (plac
         apart .0 (ones place (omega arith) (omega arith) (omega arith)) (ones (place + 1) (omega arith) (omega arith) (omega arith))
     go false t rest = rest (rw t at covering)
 
--- what has been heard since some past agrees with a word as far as both go
-abbrev Agrees : List ℕ → List ℕ → Type 0
-Agrees xs word = (place : ℕ) → place ≤ 78 → place < length xs → getD xs place 0 ≡ getD word place 0
+-- Twelve ones of a window that lies over an accepted word: however far on, from where six places of the word are left before the end of the ones to where
+-- the ones begin at its last but two, they begin at the word's own twelve.
+module _
+    (window word : List ℕ) (a b from : ℕ) (over : Over window a word b) (level : (a ≡ 0) ⊎ (b ≡ 0)) (early : from ≤ 66)
+    (ones : (place : ℕ) → from ≤ place → place < from + 12 → getD window place 0 ≡ 1) (low : a ≤ from + b + 8) (high : from + b ≤ 77 + a) where
+  ones-in-word : (place : ℕ) → place ≤ 78 → place + 3 ≤ from + b + 14 - a → from + b + 14 - a ≤ place + 14 → getD word place 0 ≡ 1
+  ones-in-word place near below above =
+      ⊎-elim
+      (λ none.
+      let there : place - b + b ≡ place = omega arith in
+      ap (λ (n : ℕ). getD word n 0) (sym there)
+      ∙ sym (over .agree (place - b) (omega arith))
+      ∙ ones (place - b + a) (omega arith) (omega arith))
+      (λ none.
+      let there : place + b ≡ place = omega arith in
+      ap (λ (n : ℕ). getD word n 0) (sym there)
+      ∙ sym (over .agree place (omega arith))
+      ∙ ones (place + a) (omega arith) (omega arith))
+      level
 
-no-sync :
-    (past xs word : List ℕ) → Each (NotBoth word) gaps → Agrees xs word → covers (length xs) gaps ≡ true
-    → drop 64 (latest (past ++ xs)) ≡ syncWord → ⊥
-unfolding someAbove
-no-sync past xs word apart agrees covering ends =
-    covers-none word (length xs) gaps apart refl covering
-    (λ place near low high. sym (agrees place near (omega arith)) ∙ ones-before past xs ends place low high)
+  pub own-twelve : Each (NotBoth word) gaps → from + b ≡ 66 + a
+  unfolding someAbove
+  own-twelve apart = go (eqb (from + b) (66 + a)) refl
+    where
+      never : covers (from + b + 14 - a) gaps ≡ true → ⊥
+      never covering = covers-none word (from + b + 14 - a) gaps apart refl covering ones-in-word
 
-module _ (past word : List ℕ) (apart : Each (NotBoth word) gaps) where
-  -- inside the word, once it is settled
-  pub inside-quiet :
-      (xs rest : List ℕ) → word ≡ xs ++ rest → settled < length xs → length xs < 80 → drop 64 (latest (past ++ xs)) ≡ syncWord → ⊥
-  inside-quiet xs rest parts low high =
-      no-sync past xs word apart (λ place near within. sym (rw parts (List·getD-append xs rest 0 place within)))
-      (covered (79 - settled) (settled + 1) refl (length xs) (omega arith) (omega arith))
-
-  -- and up to then after a whole word
-  pub after-quiet :
-      (xs : List ℕ) → length word ≡ 80 → 0 < length xs → length xs ≤ settled → drop 64 (latest ((past ++ word) ++ xs)) ≡ syncWord → ⊥
-  after-quiet xs long low high =
-      let size : length (word ++ xs) ≡ 80 + length xs = length-append word xs ∙ rw long in
-      rw (append-assoc past word xs)
-      (no-sync past (word ++ xs) word apart (λ place near within. List·getD-append word xs 0 place (omega arith))
-      (covered settled 81 refl (length (word ++ xs)) (omega arith) (omega arith)))
+      go : (t : Bool) → eqb (from + b) (66 + a) ≡ t → from + b ≡ 66 + a
+      go true t = eqb-true (from + b) (66 + a) t
+      go false t =
+          let other = eqb-false (from + b) (66 + a) t in
+          ⊎-elim
+          (λ (less : from + b + 14 - a < 80). absurd (never (covered 74 6 refl (from + b + 14 - a) (omega arith) less)))
+          (λ (more : 80 < from + b + 14 - a). absurd (never (covered 11 81 refl (from + b + 14 - a) more (omega arith))))
+          (apart-from (from + b + 14 - a) (λ e. other (omega arith)))

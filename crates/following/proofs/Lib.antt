@@ -17,17 +17,31 @@ pub mod StepsCounted
 -- Demand 3:
 -- Digits    the digits of an accepted address are too small for their top two bits to be both set
 -- Apart     places of an accepted word at which it has not both this bit and the next set
--- Window    the last 80 of all the bits so far, and what a sync word at their end says of the bits before it
--- Gaps      a false sync word among accepted words would cover a gap of one of them
--- Heeded    a word fed after any past: nothing until its 80th bit, and then its own record with what is found
+-- CodeWords what acceptance says of a code word
+-- Turned    lists turned round, and one that lies over another so many places on
+-- Window    the last 80 of all the bits so far, and how a word that runs on in them lies over them
+-- Gaps      the sync word's twelve ones, wherever else they lay over an accepted word, would cover a gap of it
+-- Synced    where the sync word stands in a window that lies over an accepted word; a window is not both forward and backward
+-- Quiet     nothing is heard inside a word or between two
+-- Whole     a code word held whole is heard as itself, the way it runs
+-- Heeded    a word fed after any past: nothing until its 80th bit, and then its own report
 -- Demand3   each word is reported, as itself, at its 80th bit
--- Tight     five is tight: a false report at the fifth bit
--- Impostors one that never reports, refuses each word, reports one fixed address, or gives something else for each uncorrected word fails it
+-- Turns     a run that turns, inside a word or anywhere
+-- Tight     after fewer bits the demand could not be met
+-- Either    the two looks: their order is no choice, and complaints are only forward
+-- Impostors one that never reports, refuses each word, reports one fixed address, gives something else for uncorrected or backward words fails it
 pub mod Digits
 pub mod Apart
+pub mod CodeWords
+pub mod Turned
 pub mod Window
 pub mod Gaps
+pub mod Synced
+pub mod Quiet
+pub mod Whole
 pub mod Heeded
 pub mod Demand3
+pub mod Turns
 pub mod Tight
+pub mod Either
 pub mod Impostors

@@ -13,7 +13,7 @@ use Rattle.bits.specs.Bits.{AllBits}
 use Rattle.bits.proofs.Bit.{head-within, within-take, within-drop}
 use Rattle.modes.specs.Modes.{unknown}
 use Rattle.register.specs.declared.types.Reader.{Reader}
-use Rattle.reader.specs.declared.types.Heard.{Heard}
+use Rattle.hearing.specs.declared.types.Heard.{Heard}
 use Rattle.register.specs.Held.{unreached}
 use Rattle.reader.specs.Steps.{steppedOf}
 use Rattle.reader.specs.Blocks.{isAnswer, going, blockedOf}

@@ -4,16 +4,17 @@ use Prim.Native.Nat.{ℕ}
 use mathlib.Core.Path.{_≡_, refl, subst, _∙_}
 use mathlib.Core.Bool.{Bool, true, false}
 use mathlib.Core.List.{List, [], _∷_}
+use mathlib.Core.Logic.{⊎-elim}
 use lib.Dec.{ltb}
 use borrow.Author.Tests.{ltb-false}
 use Rattle.refusals.specs.Table.{element-too-high}
 use Rattle.refusals.specs.Answer.{testOf}
-use Rattle.refusals.proofs.Answered.{kept, carried}
+use Rattle.refusals.proofs.Answered.{kept, carried, otherwise-accepted, clear-or-refused}
 use Rattle.refusals.proofs.ByNumber.{not-clear}
 use Rattle.bits.specs.Bits.{toBits, howMany}
 use Rattle.modes.specs.Modes.{unknown}
 use Rattle.register.specs.declared.types.Reader.{Reader}
-use Rattle.reader.specs.declared.types.Heard.the-variants.{Refused}
+use Rattle.hearing.specs.declared.types.Heard.the-variants.{Refused}
 use Rattle.reader.specs.declared.types.Stepped.{Stepped}
 use Rattle.register.specs.Held.{heldBits, push, readerWith, freshOf, unreached}
 use Rattle.reader.specs.Steps.{after, feedRefusals, bitTaken, steppedOf}
@@ -56,8 +57,18 @@ step-passing r element p = go (ltb 1 element) refl
         rw (passing-takes r element p t)
         record {
           known = p .known;
-          passes = check-of (r .mode) (push bits element) (push-few bits element) (push-clean bits element (held-clean r) small);
+          passes = check-of (r .mode) (r .ways) (push bits element) (push-few bits element) (push-clean bits element (held-clean r) small);
         }
+
+-- and the mode and the ways stay, whatever is fed
+pub step-keeps : (r : Reader) (element : ℕ) → (steppedOf r element .reader .mode ≡ r .mode) × (steppedOf r element .reader .ways ≡ r .ways)
+unfolding steppedOf readerWith
+step-keeps r element =
+    let rows = feedRefusals r element in
+    ⊎-elim
+    (λ clear. rw (otherwise-accepted (λ (n : ℕ). after r (Refused n)) (bitTaken r element) rows clear) (refl, refl))
+    (λ given. rw (given .1) (refl, refl))
+    (clear-or-refused (λ (n : ℕ). after r (Refused n)) (bitTaken r element) rows)
 
 pub fed-passing : (elements : List ℕ) (r : Reader) → Passing r → Passing (fed r elements)
 unfolding fed
@@ -68,7 +79,7 @@ fed-passing (element ∷ elements) r p = fed-passing elements (steppedOf r eleme
 pub reached-passing : (r : Reader) → unknown (r .mode) ≡ false → Reached r → Passing r
 unfolding unreached toBits howMany
 reached-passing r known reached =
-    subst Passing (reached .brought) (fed-passing (reached .elements) (freshOf (r .mode)) record { known = known; passes = refl })
+    subst Passing (reached .brought) (fed-passing (reached .elements) (freshOf (r .mode) (r .ways)) record { known = known; passes = refl })
 
 pub passing-goes : (r : Reader) (limit : ℕ) (run : List ℕ) → Passing r → blockedOf r limit run ≡ going r limit run
 unfolding blockedOf

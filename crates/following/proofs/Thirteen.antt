@@ -3,7 +3,7 @@
 use Prim.Native.Nat.{ℕ, _-_, _^_, _<_}
 use mathlib.Core.Path.{_≡_, refl, ap}
 use mathlib.Core.Bool.{Bool, true, false, _&&_, cond}
-use mathlib.Core.List.{List, [], _∷_}
+use mathlib.Core.List.{List, [], _∷_, reverse}
 use mathlib.Core.Logic.{_↔_}
 use native.Mathlib.Omega.{arith}
 use lib.Dec.{ltb, eqb}
@@ -20,10 +20,13 @@ use Rattle.polarity.specs.declared.types.Word.the-variants.{Holds as Read, Refu
 use Rattle.polarity.specs.Word.{syncWord, infoIn, foundIn}
 use Rattle.ltc.specs.Calls.{readRefusals, readOf}
 use Rattle.register.specs.declared.types.Reader.{Reader}
-use Rattle.reader.specs.declared.types.Heard.{Heard}
-use Rattle.reader.specs.declared.types.Heard.the-variants.{Nothing, Accepted, Refused}
+use Rattle.register.specs.declared.types.Ways.{Ways}
+use Rattle.register.specs.declared.types.Ways.the-variants.{ForwardOnly, Both}
+use Rattle.hearing.specs.declared.types.Heard.{Heard}
+use Rattle.hearing.specs.declared.types.Heard.the-variants.{Nothing, Accepted, Refused}
 use Rattle.register.specs.Held.{heldBits, push, unreached}
-use Rattle.reader.specs.Steps.{told, heardIn, steppedOf}
+use Rattle.hearing.specs.Window.{told, forwardIn, toldBackward, backwardIn, orElse, heardIn}
+use Rattle.reader.specs.Steps.{steppedOf}
 use Rattle.reader.specs.Blocks.{isAnswer, going, blockedOf}
 use Rattle.following.specs.Reach.{Reached}
 use Rattle.reader.specs.Feeding.{Passing}
@@ -43,13 +46,29 @@ word-below mode bits =
     rw (carried (λ (w : Word). number (told w)) Unheld (Read (marked No (recordIn mode (infoIn bits))) (foundIn bits)) (readRefusals mode bits))
     (given-below 13 (omega arith) (readRefusals mode bits) (omega arith))
 
-heard-below : (mode : ℕ) (bits : List ℕ) → number (heardIn mode bits) < 13
-unfolding heardIn
-heard-below mode bits = go (eqb (length bits) 80 && same (drop 64 bits) syncWord)
+forward-below : (mode : ℕ) (bits : List ℕ) → number (forwardIn mode bits) < 13
+unfolding forwardIn
+forward-below mode bits = go (eqb (length bits) 80 && same (drop 64 bits) syncWord)
   where
     go : (t : Bool) → number (cond t (told (readOf mode bits)) Nothing) < 13
     go true = word-below mode bits
     go false = omega arith
+
+-- and nothing that is heard backward is refused
+backward-below : (ways : Ways) (word : Word) → number (toldBackward ways word) < 13
+backward-below ForwardOnly word = omega arith
+backward-below Both (Read r found) = omega arith
+backward-below Both (Unheld n) = omega arith
+
+either-below : (forward backward : Heard) → number forward < 13 → number backward < 13 → number (orElse forward backward) < 13
+either-below Nothing backward f b = b
+either-below (Accepted r) backward f b = f
+either-below (Refused n) backward f b = f
+
+heard-below : (mode : ℕ) (ways : Ways) (bits : List ℕ) → number (heardIn mode ways bits) < 13
+unfolding heardIn backwardIn
+heard-below mode ways bits =
+    either-below (forwardIn mode bits) (backwardIn mode ways bits) (forward-below mode bits) (backward-below ways (readOf mode (reverse bits)))
 
 -- a reader whose mode and state are sound never says 13
 step-below : (r : Reader) (element : ℕ) → Passing r → number (steppedOf r element .heard) < 13
@@ -58,7 +77,7 @@ step-below r element p = go (ltb 1 element) refl
   where
     go : (t : Bool) → ltb 1 element ≡ t → number (steppedOf r element .heard) < 13
     go true t = rw (p .known, p .passes, t) (omega arith)
-    go false t = rw (p .known, p .passes, t) (heard-below (r .mode) (push (heldBits r) element))
+    go false t = rw (p .known, p .passes, t) (heard-below (r .mode) (r .ways) (push (heldBits r) element))
 
 block-below : (run : List ℕ) (r : Reader) (limit : ℕ) → Passing r → number (going r limit run .heard) < 13
 unfolding going

@@ -1,20 +1,17 @@
--- The last 80 of all the bits so far, and what a sync word at their end says of the bits before it.
+-- The last 80 of all the bits so far, and how a word that runs on in them lies over them.
 -- Assumes nothing.
 use Prim.Native.Nat.{ℕ, _+_, _-_, _<_, _≤_}
 use mathlib.Core.Path.{_≡_, refl, sym, ap, _∙_}
-use mathlib.Core.Bool.{Bool, true, false, and-false}
-use mathlib.Core.List.{List, [], _∷_, _++_}
+use mathlib.Core.Bool.{Bool, true, false}
+use mathlib.Core.List.{List, [], _∷_, _++_, append-assoc}
 use native.Mathlib.Omega.{arith}
-use lib.Dec.{ltb, eqb}
-use lib.ListN.{length, getD, drop, length-append, length-drop, replicate, getD-replicate, List·getD-append}
+use lib.Dec.{ltb}
+use lib.ListN.{length, getD, length-append, List·getD-append}
 use lib.Seq.{drop-drop, drop-append-le, getD-drop, getD-append-add}
 use borrow.Author.Tests.{ltb-true, ltb-false}
-use Rattle.runs.proofs.Same.{not-same}
-use Rattle.polarity.specs.Word.{syncWord}
-use Rattle.reader.specs.declared.types.Heard.the-variants.{Nothing}
 use Rattle.register.specs.Held.{latest, push}
-use Rattle.reader.specs.Steps.{heardIn}
 use Rattle.register.proofs.Pushed.{latest-length, push-full}
+use Rattle.following.proofs.Turned.{Over}
 
 -- a bit pushed onto the last 80 leaves the last 80 of one bit more
 pub push-latest : (past : List ℕ) (bit : ℕ) → push (latest past) bit ≡ latest (past ++ (bit ∷ []))
@@ -35,29 +32,39 @@ push-latest past bit = go (ltb (length past) 80) refl
         push-full (latest past) bit held
         ∙ rw (longer, one, drop-drop 1 (length past - 80) past) (sym (drop-append-le (length past - 80 + 1) past (bit ∷ []) (omega arith)))
 
--- where the last 16 are not the sync word, nothing is heard
-pub unlike-hears-nothing : (mode : ℕ) (bits : List ℕ) → (drop 64 bits ≡ syncWord → ⊥) → heardIn mode bits ≡ Nothing
-unfolding heardIn
-unlike-hears-nothing mode bits unlike = rw (not-same (drop 64 bits) syncWord unlike, and-false (eqb (length bits) 80))
-
--- the sync word has twelve ones in a row
-twelve-ones : (i : ℕ) → i < 12 → getD syncWord (2 + i) 0 ≡ 1
-unfolding syncWord
-twelve-ones i h =
-    sym (getD-drop 2 syncWord i 0) ∙ List·getD-append (replicate 12 1) (0 ∷ 1 ∷ []) 0 i h ∙ getD-replicate 12 i 1 0 h
-
--- where it ends the bits so far, so have they
-module _ (past xs : List ℕ) (ends : drop 64 (latest (past ++ xs)) ≡ syncWord) where
-  cut : drop (length (past ++ xs) - 80 + 64) (past ++ xs) ≡ syncWord
-  cut = sym (drop-drop 64 (length (past ++ xs) - 80) (past ++ xs)) ∙ ends
-
-  pub ones-before : (place : ℕ) → place + 3 ≤ length xs → length xs ≤ place + 14 → getD xs place 0 ≡ 1
-  unfolding syncWord
-  ones-before place low high =
+-- where 80 are held, they are the last of a past and what came after it
+module _ (past xs : List ℕ) (full : length (latest (past ++ xs)) ≡ 80) where
+  held-at : (place : ℕ) → place < length xs → length xs ≤ place + 80 → getD (latest (past ++ xs)) (place + 80 - length xs) 0 ≡ getD xs place 0
+  held-at place within near =
       let size = length-append past xs in
-      let sixteen : length (past ++ xs) - (length (past ++ xs) - 80 + 64) ≡ 16 = sym (length-drop (length (past ++ xs) - 80 + 64) (past ++ xs)) ∙ ap length cut in
-      let i = place + 14 - length xs in
-      let here : length (past ++ xs) - 80 + 64 + (2 + i) ≡ length past + place = omega arith in
-      let window : getD (past ++ xs) (length past + place) 0 ≡ getD syncWord (2 + i) 0 =
-      rw (← here, ← cut) (sym (getD-drop (length (past ++ xs) - 80 + 64) (past ++ xs) (2 + i) 0)) in
-      sym (getD-append-add past xs place 0) ∙ window ∙ twelve-ones i (omega arith)
+      let enough : 80 ≤ length (past ++ xs) = omega (arith, latest-length (past ++ xs)) in
+      let here : length (past ++ xs) - 80 + (place + 80 - length xs) ≡ length past + place = omega arith in
+      getD-drop (length (past ++ xs) - 80) (past ++ xs) (place + 80 - length xs) 0
+      ∙ ap (λ (n : ℕ). getD (past ++ xs) n 0) here
+      ∙ getD-append-add past xs place 0
+
+-- the word that runs lies at their end as far as it has come
+pub word-over : (past xs rest : List ℕ) → length (latest (past ++ xs)) ≡ 80 → length xs < 80 → Over (latest (past ++ xs)) (80 - length xs) (xs ++ rest) 0
+word-over past xs rest full short =
+    record {
+      agree = λ i h.
+          let here : i + (80 - length xs) ≡ i + 80 - length xs = omega arith in
+          let itself : i + 0 ≡ i = omega arith in
+          rw (here, itself) (held-at past xs full i (omega arith) (omega arith) ∙ sym (List·getD-append xs rest 0 i (omega arith)));
+    }
+
+-- and the one before it at their beginning, but for as much
+pub before-over :
+    (past word xs : List ℕ) → length word ≡ 80 → length (latest ((past ++ word) ++ xs)) ≡ 80 → Over (latest ((past ++ word) ++ xs)) 0 word (length xs)
+before-over past word xs long full =
+    record {
+      agree = λ i h.
+          let both : length (word ++ xs) ≡ 80 + length xs = length-append word xs ∙ rw long in
+          let parts = append-assoc past word xs in
+          let held = held-at past (word ++ xs) (ap (λ (l : List ℕ). length (latest l)) (sym parts) ∙ full) (i + length xs) (omega arith) (omega arith) in
+          let here : i + length xs + 80 - length (word ++ xs) ≡ i + 0 = omega arith in
+          ap (λ (l : List ℕ). getD (latest l) (i + 0) 0) parts
+          ∙ ap (λ (n : ℕ). getD (latest (past ++ (word ++ xs))) n 0) (sym here)
+          ∙ held
+          ∙ List·getD-append word xs 0 (i + length xs) (omega arith);
+    }

@@ -4,7 +4,7 @@ use mathlib.Core.Path.{_≡_}
 use Prim.Native.Nat.{ℕ}
 use mathlib.Core.List.{List, [], _∷_}
 use Rattle.register.specs.declared.types.Reader.{Reader}
-use Rattle.reader.specs.declared.types.Heard.{Heard}
+use Rattle.hearing.specs.declared.types.Heard.{Heard}
 use Rattle.register.specs.Held.{freshOf}
 use Rattle.reader.specs.Steps.{steppedOf}
 
@@ -20,4 +20,4 @@ answers reader (element ∷ elements) = steppedOf reader element .heard ∷ answ
 
 pub record Reached (reader : Reader) : Type 0 where
   pub elements : List ℕ
-  pub brought : fed (freshOf (reader .mode)) elements ≡ reader
+  pub brought : fed (freshOf (reader .mode) (reader .ways)) elements ≡ reader

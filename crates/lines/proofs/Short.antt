@@ -3,8 +3,8 @@
 use Prim.Native.Nat.{ℕ, _≤_}
 use native.Mathlib.Omega.{arith}
 use lib.ListN.{length, length-append}
-use Rattle.reader.specs.declared.types.Heard.{Heard}
-use Rattle.reader.specs.declared.types.Heard.the-variants.{Nothing, Accepted, Refused}
+use Rattle.hearing.specs.declared.types.Heard.{Heard}
+use Rattle.hearing.specs.declared.types.Heard.the-variants.{Nothing, Accepted, Refused}
 use Rattle.text.proofs.Spelled.{at-most}
 use Rattle.figures.specs.Figures.{addressText, groupsText}
 use Rattle.lines.specs.Lines.{acceptedText, refusedText, lineOf}

@@ -6,7 +6,7 @@ ghost use Rattle.runs.specs.Run.{placed};
 ghost use Rattle.lines.specs.Lines.{acceptedText, refusedText, lineOf, endLineOf};
 use figures::address_text;
 use figures::groups_text;
-use reader::Heard;
+use hearing::Heard;
 use record::Record;
 use text::append;
 use text::append_decimal;

@@ -1,6 +1,6 @@
 -- What each test of a turn of a block leads to: the turn goes on with a sound reader, or the block stops with what was heard.
 -- Assumes nothing.
-use mathlib.Core.Path.{_≡_, sym, _∙_}
+use mathlib.Core.Path.{_≡_, refl, sym, _∙_}
 use mathlib.Core.Bool.{Bool, true, false}
 use mathlib.Core.List.{List}
 use Prim.Native.Nat.{ℕ, _+_, _^_, _≤_, _<_, min}
@@ -9,11 +9,13 @@ use lib.ListN.{length, getD}
 use Rattle.modes.specs.Modes.{unknown}
 use Rattle.register.specs.declared.types.Reader.{Reader}
 use Rattle.register.specs.Held.{heldBits, push, readerWith, unreached}
-use Rattle.reader.specs.declared.types.Heard.{Heard}
-use Rattle.reader.specs.Steps.{heardIn}
+use Rattle.hearing.specs.declared.types.Heard.{Heard}
+use Rattle.hearing.specs.declared.types.Heard.the-variants.{Nothing}
+use Rattle.hearing.specs.Window.{heardIn}
+use Rattle.hearing.specs.Looks.{synced}
+use Rattle.hearing.proofs.Synced.{unsynced-hears-nothing}
 use Rattle.reader.specs.Blocks.{isAnswer, stopped, going}
 use Rattle.reader.specs.Feeding.{Feeding}
-use Rattle.reader.proofs.Taken.{next-passes}
 use Rattle.reader.proofs.Turns.{feeding-begins, stops-after, feeding-goes-on}
 
 module _ (limit : ℕ) (run : List ℕ) (first : Reader) (end : ℕ) where
@@ -29,16 +31,18 @@ module _ (limit : ℕ) (run : List ℕ) (first : Reader) (end : ℕ) where
     pub sound : unreached reader ≡ false
     sound = f .sound .passing .passes
 
-    pub pushed-sound :
-        (next : Reader) → getD run taken 0 ≤ 1 → next ≡ readerWith (reader .mode) (push (heldBits reader) (getD run taken 0)) → unreached next ≡ false
-    pushed-sound next small pushes =
-        let s = f .sound in next-passes reader (getD run taken 0) (s .low) (s .high) (s .passing .passes) small (s .passing .known) next pushes
+    -- the bit was taken, and the sync word stands nowhere
+    pub unsynced :
+        taken < end → getD run taken 0 ≤ 1 → (next : Reader) → next ≡ readerWith (reader .mode) (reader .ways) (push (heldBits reader) (getD run taken 0))
+        → next .info < 2 ^ 64 → next .sync < 2 ^ 16 → (seen : Bool) → seen ≡ synced next → seen ≡ false → Feeding limit run first end next (taken + 1)
+    unsynced more small next pushes low high seen tested none =
+        feeding-goes-on limit run first end reader taken f more small next pushes Nothing (sym (unsynced-hears-nothing next (sym tested ∙ none))) low high refl
 
     -- the bit was taken, and what is heard was looked at
     module _
         (more : taken < end) (small : getD run taken 0 ≤ 1) (next : Reader)
-        (pushes : next ≡ readerWith (reader .mode) (push (heldBits reader) (getD run taken 0))) (heard : Heard)
-        (told : heard ≡ heardIn (next .mode) (heldBits next)) (loud : Bool) (tested : loud ≡ isAnswer heard) where
+        (pushes : next ≡ readerWith (reader .mode) (reader .ways) (push (heldBits reader) (getD run taken 0))) (heard : Heard)
+        (told : heard ≡ heardIn (next .mode) (next .ways) (heldBits next)) (loud : Bool) (tested : loud ≡ isAnswer heard) where
       pub answered : loud ≡ true → stopped heard next (taken + 1) ≡ going first limit run
       answered e = stops-after limit run first end reader taken f more small next pushes heard told (sym tested ∙ e)
 

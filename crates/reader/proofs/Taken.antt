@@ -11,9 +11,10 @@ use Rattle.bits.specs.Bits.{someAbove, AllBits}
 use Rattle.bits.proofs.Bit.{within-drop, within-cons, within-append}
 use Rattle.modes.specs.Modes.{unknown}
 use Rattle.register.specs.declared.types.Reader.{Reader}
-use Rattle.reader.specs.declared.types.Heard.{Heard}
+use Rattle.hearing.specs.declared.types.Heard.{Heard}
 use Rattle.register.specs.Held.{heldBits, push, readerWith, unreached}
-use Rattle.reader.specs.Steps.{after, heardIn, steppedOf}
+use Rattle.hearing.specs.Window.{heardIn}
+use Rattle.reader.specs.Steps.{after, steppedOf}
 use Rattle.register.proofs.Registers.{held-clean, held-of, check-of}
 use Rattle.register.proofs.Pushed.{push-length}
 
@@ -27,13 +28,13 @@ pub push-few : (bits : List ℕ) (bit : ℕ) → length (push bits bit) ≤ 80
 push-few bits bit = rw (push-length bits bit) (omega arith)
 
 module _ (r : Reader) (bit : ℕ) (low : r .info < 2 ^ 64) (high : r .sync < 2 ^ 16) (passes : unreached r ≡ false) (small : bit ≤ 1) where
-  pub pushed-passes : unreached (readerWith (r .mode) (push (heldBits r) bit)) ≡ false
-  pushed-passes = check-of (r .mode) (push (heldBits r) bit) (push-few (heldBits r) bit) (push-clean (heldBits r) bit (held-clean r) small)
+  pub pushed-passes : unreached (readerWith (r .mode) (r .ways) (push (heldBits r) bit)) ≡ false
+  pushed-passes = check-of (r .mode) (r .ways) (push (heldBits r) bit) (push-few (heldBits r) bit) (push-clean (heldBits r) bit (held-clean r) small)
 
-  pub pushed-holds : heldBits (readerWith (r .mode) (push (heldBits r) bit)) ≡ push (heldBits r) bit
-  pushed-holds = held-of (r .mode) (push (heldBits r) bit) (push-few (heldBits r) bit) (push-clean (heldBits r) bit (held-clean r) small)
+  pub pushed-holds : heldBits (readerWith (r .mode) (r .ways) (push (heldBits r) bit)) ≡ push (heldBits r) bit
+  pushed-holds = held-of (r .mode) (r .ways) (push (heldBits r) bit) (push-few (heldBits r) bit) (push-clean (heldBits r) bit (held-clean r) small)
 
-  module _ (known : unknown (r .mode) ≡ false) (next : Reader) (pushes : next ≡ readerWith (r .mode) (push (heldBits r) bit)) where
+  module _ (known : unknown (r .mode) ≡ false) (next : Reader) (pushes : next ≡ readerWith (r .mode) (r .ways) (push (heldBits r) bit)) where
     pub next-passes : unreached next ≡ false
     next-passes = rw pushes pushed-passes
 
@@ -41,8 +42,8 @@ module _ (r : Reader) (bit : ℕ) (low : r .info < 2 ^ 64) (high : r .sync < 2 ^
     unfolding readerWith
     same-mode = rw pushes
 
-    pub step-taken : (heard : Heard) → heard ≡ heardIn (next .mode) (heldBits next) → after next heard ≡ steppedOf r bit
+    pub step-taken : (heard : Heard) → heard ≡ heardIn (next .mode) (next .ways) (heldBits next) → after next heard ≡ steppedOf r bit
     unfolding steppedOf readerWith
     step-taken heard told =
-        let answer : heard ≡ heardIn (r .mode) (push (heldBits r) bit) = told ∙ rw pushes (ap (heardIn (r .mode)) pushed-holds) in
+        let answer : heard ≡ heardIn (r .mode) (r .ways) (push (heldBits r) bit) = told ∙ rw pushes (ap (heardIn (r .mode) (r .ways)) pushed-holds) in
         rw (known, passes, le-ltb 1 bit small) (ap₂ after pushes answer)

@@ -12,10 +12,11 @@ use lib.ListN.{length, getD, drop, drop-of-length-le}
 use lib.Seq.{drop-cons}
 use borrow.Author.Tests.{lt-ltb, le-ltb, ltb-true, ltb-false, ne-eqb}
 use Rattle.register.specs.declared.types.Reader.{Reader}
-use Rattle.reader.specs.declared.types.Heard.{Heard}
-use Rattle.reader.specs.declared.types.Heard.the-variants.{Nothing, Refused}
+use Rattle.hearing.specs.declared.types.Heard.{Heard}
+use Rattle.hearing.specs.declared.types.Heard.the-variants.{Nothing, Refused}
 use Rattle.register.specs.Held.{heldBits, push, readerWith}
-use Rattle.reader.specs.Steps.{heardIn, steppedOf}
+use Rattle.hearing.specs.Window.{heardIn}
+use Rattle.reader.specs.Steps.{steppedOf}
 use Rattle.reader.specs.Blocks.{isAnswer, stopped, oneMore, going}
 use Rattle.reader.specs.Feeding.{moreBefore, Sound, Feeding}
 use Rattle.reader.proofs.Taken.{next-passes, same-mode, step-taken}
@@ -32,8 +33,8 @@ module _ (reader : Reader) (s : Sound reader) (limit : ℕ) (some : eqb limit 0 
   high-stops high = rw (some, s .passing .known, s .passing .passes, lt-ltb 1 element high)
 
   module _
-      (small : element ≤ 1) (next : Reader) (pushes : next ≡ readerWith (reader .mode) (push (heldBits reader) element))
-      (heard : Heard) (told : heard ≡ heardIn (next .mode) (heldBits next)) where
+      (small : element ≤ 1) (next : Reader) (pushes : next ≡ readerWith (reader .mode) (reader .ways) (push (heldBits reader) element))
+      (heard : Heard) (told : heard ≡ heardIn (next .mode) (next .ways) (heldBits next)) where
     stepped : steppedOf reader element ≡ record { heard = heard; reader = next }
     stepped = sym (step-taken reader element (s .low) (s .high) (s .passing .passes) small (s .passing .known) next pushes heard told)
 
@@ -86,8 +87,8 @@ module _ (limit : ℕ) (run : List ℕ) (first : Reader) (end : ℕ) where
           sym (f .so-far ∙ ap (moreBefore taken) (rw here one) ∙ ap (stopped (Refused 3) reader) (add-zero taken))
 
       module _
-          (small : getD run taken 0 ≤ 1) (next : Reader) (pushes : next ≡ readerWith (reader .mode) (push (heldBits reader) (getD run taken 0)))
-          (heard : Heard) (told : heard ≡ heardIn (next .mode) (heldBits next)) where
+          (small : getD run taken 0 ≤ 1) (next : Reader) (pushes : next ≡ readerWith (reader .mode) (reader .ways) (push (heldBits reader) (getD run taken 0)))
+          (heard : Heard) (told : heard ≡ heardIn (next .mode) (next .ways) (heldBits next)) where
         -- after an answer
         pub stops-after : isAnswer heard ≡ true → stopped heard next (taken + 1) ≡ going first limit run
         stops-after some =

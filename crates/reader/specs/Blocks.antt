@@ -7,8 +7,8 @@ use mathlib.Core.List.{List, [], _∷_}
 use lib.Dec.{ltb, eqb}
 use Rattle.refusals.specs.Answer.{answer}
 use Rattle.register.specs.declared.types.Reader.{Reader}
-use Rattle.reader.specs.declared.types.Heard.{Heard}
-use Rattle.reader.specs.declared.types.Heard.the-variants.{Nothing, Accepted, Refused}
+use Rattle.hearing.specs.declared.types.Heard.{Heard}
+use Rattle.hearing.specs.declared.types.Heard.the-variants.{Nothing, Accepted, Refused}
 use Rattle.reader.specs.declared.types.Blocked.{Blocked}
 use Rattle.reader.specs.Steps.{readerRefusals, steppedOf}
 

@@ -4,56 +4,43 @@ ghost use mathlib.Core.Bool.{false};
 ghost use Prim.Native.Nat.{_<_, min};
 ghost use Rattle.modes.specs.Modes.{unknown};
 ghost use Rattle.register.specs.Held.{heldBits, push, readerWith, unreached};
-ghost use Rattle.reader.specs.Steps.{heardIn, steppedOf};
+ghost use Rattle.hearing.specs.Window.{heardIn};
+ghost use Rattle.reader.specs.Steps.{steppedOf};
 ghost use Rattle.reader.specs.Blocks.{isAnswer, going, blockedOf};
 use crate::types::Blocked;
-use crate::types::Heard;
-use crate::types::Report;
 use crate::types::Stepped;
-use polarity::Word;
+use hearing::Heard;
+use hearing::heard;
+use hearing::is_synced;
 use register::Reader;
 use register::is_unreached;
 
 // The reader with one bit more.
 fn pushed(reader: Reader, bit: u8) -> Reader
     requires { ⌜ (unreached reader ≡ false) × (bit < 2) ⌝ }
-    ensures { λ r. ⌜ r ≡ readerWith (reader .mode) (push (heldBits reader) bit) ⌝ }
+    ensures { λ r. ⌜ r ≡ readerWith (reader .mode) (reader .ways) (push (heldBits reader) bit) ⌝ }
 {
     let oldest = (reader.sync % 2) as u64;
     let info = reader.info / 2 + 0x8000_0000_0000_0000 * oldest;
     let sync = reader.sync / 2 + 0x8000 * bit as u16;
     let held = reader.held;
+    let ways = reader.ways;
     if held < 80 {
+        let one_more = held + 1;
         return Reader {
             mode: reader.mode,
-            held: held + 1,
+            ways,
+            held: one_more,
             info,
             sync,
         };
     }
     Reader {
         mode: reader.mode,
+        ways,
         held: 80,
         info,
         sync,
-    }
-}
-
-// What is heard in the bits that are held.
-fn heard(reader: Reader) -> Heard
-    requires { ⌜ unreached reader ≡ false ⌝ }
-    ensures { λ r. ⌜ r ≡ heardIn (reader .mode) (heldBits reader) ⌝ }
-{
-    if reader.sync != 0xbffc {
-        return Heard::Nothing;
-    }
-    if reader.held < 80 {
-        return Heard::Nothing;
-    }
-    let word = polarity::read_info(reader.mode, reader.info);
-    match word {
-        Word::Holds(record, found) => Heard::Accepted(Report { record, found }),
-        Word::Refused(number) => Heard::Refused(number),
     }
 }
 
@@ -85,6 +72,20 @@ pub fn step(reader: Reader, element: u8) -> Stepped
         heard: answer,
         reader: next,
     }
+}
+
+// What is heard in a copy: a reader that is lent to a call from within a loop is not kept in registers there.
+fn heard_apart(reader: Reader) -> Heard
+    ensures { λ r. ⌜ r ≡ heardIn (reader .mode) (reader .ways) (heldBits reader) ⌝ }
+{
+    let same_ways = reader.ways;
+    heard(Reader {
+        mode: reader.mode,
+        ways: same_ways,
+        held: reader.held,
+        info: reader.info,
+        sync: reader.sync,
+    })
 }
 
 fn is_answer(answer: Heard) -> bool
@@ -125,13 +126,15 @@ fn feed(reader: Reader, limit: usize, run: &[u8]) -> Blocked
         }
         now = pushed(now, element);
         taken += 1;
-        let answer = heard(now);
-        if is_answer(answer) {
-            return Blocked {
-                heard: answer,
-                reader: now,
-                taken,
-            };
+        if is_synced(now) {
+            let answer = heard_apart(now);
+            if is_answer(answer) {
+                return Blocked {
+                    heard: answer,
+                    reader: now,
+                    taken,
+                };
+            }
         }
     }
     Blocked {

@@ -1,18 +1,5 @@
-use polarity::Found;
-use record::Record;
+use hearing::Heard;
 use register::Reader;
-
-// What an accepted word is reported as: its record whole, and what was found.
-pub struct Report {
-    pub record: Record,
-    pub found: Found,
-}
-
-pub enum Heard {
-    Nothing,
-    Accepted(Report),
-    Refused(u8),
-}
 
 // What a step answers, and the reader after it.
 pub struct Stepped {

@@ -5,6 +5,7 @@ use crate::holding::held_at;
 use crate::telling::put_blocked;
 use crate::telling::put_stepped;
 use crate::types::Request;
+use register::Ways;
 use requests::LONGEST_LINE;
 use requests::bits_at;
 use requests::byte;
@@ -23,11 +24,21 @@ fn request_named(name: &[u8]) -> Request {
     Request::Another
 }
 
+// REVERSE: whether it is allowed.
+fn ways_of(reverse: u64) -> Ways {
+    if reverse == 0 {
+        return Ways::ForwardOnly;
+    }
+    Ways::Both
+}
+
 fn answer_step(line: &[u8], cursor: usize, out: &mut [u8]) -> usize
     ensures { λ r. ⌜ r ≤ length (now (out .entry)) ⌝ }
 {
     let mode = number_at(line, cursor, b'b');
-    let held = held_at(line, mode.next, byte(mode.value));
+    let reverse = number_at(line, mode.next, b'f');
+    let ways = ways_of(reverse.value);
+    let held = held_at(line, reverse.next, byte(mode.value), ways);
     let element = number_at(line, held.next, b'b');
     if is_end(line, element.next) {
         let before = held.reader;
@@ -40,7 +51,9 @@ fn answer_block(line: &[u8], cursor: usize, out: &mut [u8]) -> usize
     ensures { λ r. ⌜ r ≤ length (now (out .entry)) ⌝ }
 {
     let mode = number_at(line, cursor, b'b');
-    let held = held_at(line, mode.next, byte(mode.value));
+    let reverse = number_at(line, mode.next, b'f');
+    let ways = ways_of(reverse.value);
+    let held = held_at(line, reverse.next, byte(mode.value), ways);
     let limit = number_at(line, held.next, b's');
     let mut run = [0u8; LONGEST_LINE];
     let taken = bits_at(line, limit.next, &mut run);

@@ -1,8 +1,8 @@
 // The reader that HELD describes.
 ghost use mathlib.Core.Path.{_≡_};
-ghost use Prim.Native.Nat.{_<_};
 use crate::types::Held;
 use register::Reader;
+use register::Ways;
 use requests::NOWHERE;
 use requests::Parsed;
 use requests::bits_in;
@@ -13,14 +13,15 @@ use requests::number_in;
 use requests::part_at;
 
 // The reader with the register that these bits leave, which says that it holds so many of its places. They are fed in mode 2, since the
-// request's may be a mode that takes none.
-fn holding(mode: u8, bits: &[u8], held: u64, next: usize) -> Held
-    ensures { λ r. ⌜ r .reader .mode ≡ mode ⌝ }
+// request's may be a mode that takes none, and forward only.
+fn holding(mode: u8, ways: Ways, bits: &[u8], held: u64, next: usize) -> Held
+    ensures { λ r. ⌜ (r .reader .mode ≡ mode) × (r .reader .ways ≡ ways) ⌝ }
 {
-    let fed = reader::block(Reader::fresh(2), 80, bits);
+    let fed = reader::block(Reader::fresh(2, Ways::ForwardOnly), 80, bits);
     let now = fed.reader;
     let reader = Reader {
         mode,
+        ways,
         held: byte(held),
         info: now.info,
         sync: now.sync,
@@ -42,47 +43,47 @@ fn count_held(claim: &[u8], fed: usize) -> Parsed {
     number_in(&claim[1..], 10, 255)
 }
 
-fn not_held() -> Held
-    ensures { λ r. ⌜ r .next ≡ 18446744073709551615 ⌝ }
+fn not_held(mode: u8, ways: Ways) -> Held
+    ensures { λ r. ⌜ (r .reader .mode ≡ mode) × (r .reader .ways ≡ ways) ⌝ }
 {
     Held {
-        reader: Reader::fresh(2),
+        reader: Reader::fresh(mode, ways),
         next: NOWHERE,
     }
 }
 
 // BITS or `BITS!N`.
-fn fed_in(text: &[u8], mode: u8, next: usize) -> Held
-    ensures { λ r. ⌜ (r .next < 18446744073709551615 → r .reader .mode ≡ mode) ⌝ }
+fn fed_in(text: &[u8], mode: u8, ways: Ways, next: usize) -> Held
+    ensures { λ r. ⌜ (r .reader .mode ≡ mode) × (r .reader .ways ≡ ways) ⌝ }
 {
     let mut bits = [0u8; 80];
     let end = part_at(text, 0, b'!').end;
     let length = bits_in(&text[0..end], &mut bits);
     if 80 < length {
-        return not_held();
+        return not_held(mode, ways);
     }
     let count = count_held(&text[end..], length);
     match count {
-        Parsed::Value(held) => holding(mode, &bits[0..length], held, next),
-        Parsed::Unsound => not_held(),
+        Parsed::Value(held) => holding(mode, ways, &bits[0..length], held, next),
+        Parsed::Unsound => not_held(mode, ways),
     }
 }
 
 // "`!` for a state that no feeding reaches": here one that holds 81.
-fn held_in(text: &[u8], mode: u8, next: usize) -> Held
-    ensures { λ r. ⌜ (r .next < 18446744073709551615 → r .reader .mode ≡ mode) ⌝ }
+fn held_in(text: &[u8], mode: u8, ways: Ways, next: usize) -> Held
+    ensures { λ r. ⌜ (r .reader .mode ≡ mode) × (r .reader .ways ≡ ways) ⌝ }
 {
     if is_same(text, b"!") {
-        return fed_in(b"-!81", mode, next);
+        return fed_in(b"-!81", mode, ways, next);
     }
-    fed_in(text, mode, next)
+    fed_in(text, mode, ways, next)
 }
 
-pub fn held_at(line: &[u8], cursor: usize, mode: u8) -> Held
-    ensures { λ r. ⌜ (r .next < 18446744073709551615 → r .reader .mode ≡ mode) ⌝ }
+pub fn held_at(line: &[u8], cursor: usize, mode: u8, ways: Ways) -> Held
+    ensures { λ r. ⌜ (r .reader .mode ≡ mode) × (r .reader .ways ≡ ways) ⌝ }
 {
     let field = field_at(line, cursor);
     let start = field.start;
     let end = field.end;
-    held_in(&line[start..end], mode, end + 1)
+    held_in(&line[start..end], mode, ways, end + 1)
 }

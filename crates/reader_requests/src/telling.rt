@@ -4,16 +4,26 @@ ghost use lib.ListN.{length};
 ghost use Rattle.answers.specs.Places.{Onward};
 use answers::put;
 use answers::put_bits;
+use answers::put_byte;
 use answers::put_digits;
 use answers::put_number;
 use answers::put_read;
 use answers::put_refused;
 use answers::put_text;
+use hearing::Heard;
+use hearing::Way;
 use reader::Blocked;
-use reader::Heard;
 use reader::Stepped;
 use register::Reader;
 use requests::part_at;
+
+// WAY: 0 forward, 1 backward.
+fn way_number(way: Way) -> u8 {
+    match way {
+        Way::Forward => 0,
+        Way::Backward => 1,
+    }
+}
 
 fn put_heard(out: &mut [u8], heard: Heard) -> usize
     ensures { λ r. ⌜ r ≤ length (now (out .entry)) ⌝ }
@@ -23,7 +33,9 @@ fn put_heard(out: &mut [u8], heard: Heard) -> usize
         Heard::Accepted(report) => {
             let record = report.record;
             let found = report.found;
-            put_read(out, record, found)
+            let way = report.way;
+            let next = put_read(out, record, found);
+            put_byte(out, next, way_number(way))
         }
         Heard::Refused(number) => put_refused(out, number),
     }

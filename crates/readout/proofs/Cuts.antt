@@ -11,7 +11,7 @@ use lib.Dec.{ltb}
 use lib.ListN.{length, take, length-append, length-take}
 use borrow.Author.Tests.{ltb-false}
 use Rattle.register.specs.declared.types.Reader.{Reader}
-use Rattle.reader.specs.declared.types.Heard.{Heard}
+use Rattle.hearing.specs.declared.types.Heard.{Heard}
 use Rattle.reader.specs.Steps.{steppedOf}
 use Rattle.following.specs.Reach.{fed, answers}
 use Rattle.following.proofs.Cut.{fed-cut, answers-cut}

@@ -9,7 +9,8 @@ use Rattle.modes.specs.Modes.{unknown, rateAt}
 use Rattle.polarity.specs.Word.{syncWord, oddZeros}
 use Rattle.ltc.specs.Calls.{readOf}
 use Rattle.register.specs.Held.{readerWith, unreached}
-use Rattle.reader.specs.Steps.{heardIn, steppedOf}
+use Rattle.hearing.specs.Window.{forwardIn, backwardIn, heardIn}
+use Rattle.reader.specs.Steps.{steppedOf}
 use Rattle.following.specs.Reach.{fed, answers}
 use Rattle.text.specs.Numerals.{decimalWithin, hexDigit}
 use Rattle.figures.specs.Figures.{addressText, groupsText}
@@ -19,5 +20,5 @@ use Rattle.scribe.specs.Told.{freshScribe, linesOf, textOf, scribeAfter}
 use Rattle.readout.specs.Sample.{theWord, theTwoLines}
 
 pub two-lines : textOf freshScribe theWord ++ endLineOf (scribeAfter freshScribe theWord .bits) ≡ theTwoLines
-unfolding theWord theTwoLines value toBits someAbove howMany same syncWord oddZeros recordOf readOf readerWith unreached heardIn steppedOf fed answers decimalWithin hexDigit addressText groupsText acceptedText lineOf endLineOf bitsIn goesOn linesOf scribeAfter unknown rateAt
+unfolding theWord theTwoLines value toBits someAbove howMany same syncWord oddZeros recordOf readOf readerWith unreached forwardIn backwardIn heardIn steppedOf fed answers decimalWithin hexDigit addressText groupsText acceptedText lineOf endLineOf bitsIn goesOn linesOf scribeAfter unknown rateAt
 two-lines = refl

@@ -28,6 +28,7 @@ abbrev pub shiftedTo : Reader → ℕ → ℕ → Reader
 shiftedTo reader bit held =
     record {
       mode = reader .mode;
+      ways = reader .ways;
       held = held;
       info = reader .info / 2 + 2 ^ 63 * (reader .sync % 2);
       sync = reader .sync / 2 + 2 ^ 15 * bit;
@@ -80,7 +81,7 @@ module _ (r : Reader) (low : r .info < 2 ^ 64) (high : r .sync < 2 ^ 16) (passes
       ∙ ap (λ (l : List ℕ). drop 1 l ++ (bit ∷ [])) (sym whole)
       ∙ pushed-padded (80 - length (heldBits r)) (heldBits r) bit (rw size (omega arith))
 
-  pub shifted-is-pushed : shiftedIn r bit ≡ readerWith (r .mode) (push (heldBits r) bit)
+  pub shifted-is-pushed : shiftedIn r bit ≡ readerWith (r .mode) (r .ways) (push (heldBits r) bit)
   unfolding readerWith
   shifted-is-pushed =
       let n = shiftedIn r bit in
@@ -89,4 +90,4 @@ module _ (r : Reader) (low : r .info < 2 ^ 64) (high : r .sync < 2 ^ 16) (passes
       let held : n .held ≡ length (push (heldBits r) bit) = sym (push-length (heldBits r) bit ∙ rw size) in
       let info : n .info ≡ value (take 64 (padded (push (heldBits r) bit))) = sym (info-of-register n next-low next-high) ∙ ap (λ (l : List ℕ). value (take 64 l)) next-register in
       let sync : n .sync ≡ value (drop 64 (padded (push (heldBits r) bit))) = sym (sync-of-register n next-low next-high) ∙ ap (λ (l : List ℕ). value (drop 64 l)) next-register in
-      λ i. record { mode = r .mode; held = held i; info = info i; sync = sync i }
+      λ i. record { mode = r .mode; ways = r .ways; held = held i; info = info i; sync = sync i }

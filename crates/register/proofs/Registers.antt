@@ -14,6 +14,7 @@ use Rattle.bits.specs.Bits.{value, toBits, someAbove, howMany, onesIn, AllBits}
 use Rattle.bits.proofs.Bit.{head-within, tail-within, within-append, within-take, within-drop, length-toBits, bits-of-number}
 use Rattle.bits.proofs.Inverse.{value-toBits, toBits-value}
 use Rattle.register.specs.declared.types.Reader.{Reader}
+use Rattle.register.specs.declared.types.Ways.{Ways}
 use Rattle.register.specs.Held.{register, heldBits, padded, readerWith, unreached}
 
 -- a register full of zeros, and one with no ones
@@ -45,27 +46,27 @@ module _ (whole : List ℕ) (long : length whole ≡ 80) (all : AllBits whole) w
       ap₂ (λ (xs ys : List ℕ). xs ++ ys) low high ∙ take-append-drop 64 whole
 
 -- the state that holds a list of at most 80 bits
-module _ (mode : ℕ) (bits : List ℕ) (few : length bits ≤ 80) (all : AllBits bits) where
+module _ (mode : ℕ) (ways : Ways) (bits : List ℕ) (few : length bits ≤ 80) (all : AllBits bits) where
   padded-length : length (padded bits) ≡ 80
   padded-length = length-append (replicate (80 - length bits) 0) bits ∙ rw (length-replicate {A = ℕ} (80 - length bits) 0) (omega arith)
 
   padded-clean : AllBits (padded bits)
   padded-clean = within-append 1 (replicate (80 - length bits) 0) bits (zeros-clean (80 - length bits)) all
 
-  pub register-of : register (readerWith mode bits) ≡ padded bits
+  pub register-of : register (readerWith mode ways bits) ≡ padded bits
   unfolding readerWith
   register-of = joined-again (padded bits) padded-length padded-clean
 
   -- it holds these bits
-  pub held-of : heldBits (readerWith mode bits) ≡ bits
+  pub held-of : heldBits (readerWith mode ways bits) ≡ bits
   unfolding readerWith
   held-of = ap (drop (80 - length bits)) register-of ∙ drop-at (replicate (80 - length bits) 0) bits (80 - length bits) (length-replicate {A = ℕ} (80 - length bits) 0)
 
   -- and the check passes
-  pub check-of : unreached (readerWith mode bits) ≡ false
+  pub check-of : unreached (readerWith mode ways bits) ≡ false
   unfolding readerWith unreached
   check-of =
-      let below : take (80 - length bits) (register (readerWith mode bits)) ≡ replicate (80 - length bits) 0 =
+      let below : take (80 - length bits) (register (readerWith mode ways bits)) ≡ replicate (80 - length bits) 0 =
       ap (take (80 - length bits)) register-of ∙ take-at (replicate (80 - length bits) 0) bits (80 - length bits) (length-replicate {A = ℕ} (80 - length bits) 0) in
       rw (le-ltb 80 (length bits) few, below, no-ones (80 - length bits))
 
@@ -100,11 +101,11 @@ module _ (r : Reader) (low : r .info < 2 ^ 64) (high : r .sync < 2 ^ 16) (passes
   padded-held =
       rw held-length (ap (λ (l : List ℕ). l ++ heldBits r) (sym below-is-zero) ∙ take-append-drop (80 - r .held) (register r))
 
-  pub reader-of-held : readerWith (r .mode) (heldBits r) ≡ r
+  pub reader-of-held : readerWith (r .mode) (r .ways) (heldBits r) ≡ r
   unfolding readerWith
   reader-of-held =
       let info : value (take 64 (padded (heldBits r))) ≡ r .info =
       rw (padded-held, take-at (toBits 64 (r .info)) (toBits 16 (r .sync)) 64 (length-toBits 64 (r .info))) (value-toBits 64 (r .info) low) in
       let sync : value (drop 64 (padded (heldBits r))) ≡ r .sync =
       rw (padded-held, drop-at (toBits 64 (r .info)) (toBits 16 (r .sync)) 64 (length-toBits 64 (r .info))) (value-toBits 16 (r .sync) high) in
-      λ i. record { mode = r .mode; held = held-length i; info = info i; sync = sync i }
+      λ i. record { mode = r .mode; ways = r .ways; held = held-length i; info = info i; sync = sync i }

@@ -1,4 +1,4 @@
--- "A reader has a mode and its last 80 bits, or fewer if it has had fewer."
+-- "A reader has a mode and its last 80 bits, or fewer if it has had fewer." With A3 it also has the ways in which it hears.
 -- Assumes nothing.
 use Prim.Native.Nat.{ℕ, _-_}
 use mathlib.Core.Bool.{Bool, not, _||_}
@@ -7,6 +7,7 @@ use lib.Dec.{ltb, eqb}
 use lib.ListN.{length, take, drop, replicate}
 use Rattle.bits.specs.Bits.{value, toBits, onesIn}
 use Rattle.register.specs.declared.types.Reader.{Reader}
+use Rattle.register.specs.declared.types.Ways.{Ways}
 
 -- the 80 places of a reader's register, the oldest bit first
 abbrev pub register : Reader → List ℕ
@@ -29,12 +30,12 @@ abbrev pub padded : List ℕ → List ℕ
 padded bits = replicate (80 - length bits) 0 ++ bits
 
 -- the reader that holds these bits
-unfoldable pub readerWith : ℕ → List ℕ → Reader
-readerWith mode bits =
-    record { mode = mode; held = length bits; info = value (take 64 (padded bits)); sync = value (drop 64 (padded bits)) }
+unfoldable pub readerWith : ℕ → Ways → List ℕ → Reader
+readerWith mode ways bits =
+    record { mode = mode; ways = ways; held = length bits; info = value (take 64 (padded bits)); sync = value (drop 64 (padded bits)) }
 
-abbrev pub freshOf : ℕ → Reader
-freshOf mode = record { mode = mode; held = 0; info = 0; sync = 0 }
+abbrev pub freshOf : ℕ → Ways → Reader
+freshOf mode ways = record { mode = mode; ways = ways; held = 0; info = 0; sync = 0 }
 
 -- in a mode that is known, a state that no feeding reaches holds more than 80 bits, or a one below those that it holds
 unfoldable pub unreached : Reader → Bool

@@ -3,13 +3,15 @@ ghost use mathlib.Core.Path.{_≡_};
 ghost use Rattle.register.specs.Held.{freshOf, register, unreached};
 ghost use Rattle.register.specs.Blank.{blank};
 use crate::types::Reader;
+use crate::types::Ways;
 
 impl Reader {
-    pub fn fresh(mode: u8) -> Self
-        ensures { λ r. ⌜ r ≡ freshOf mode ⌝ }
+    pub fn fresh(mode: u8, ways: Ways) -> Self
+        ensures { λ r. ⌜ r ≡ freshOf mode ways ⌝ }
     {
         Reader {
             mode,
+            ways,
             held: 0,
             info: 0,
             sync: 0,

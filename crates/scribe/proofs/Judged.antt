@@ -13,7 +13,7 @@ use Rattle.refusals.specs.declared.types.Verdict.{Verdict}
 use Rattle.refusals.specs.declared.types.Verdict.the-variants.{Sound, Refused as Unsound}
 use Rattle.modes.specs.Modes.{unknown}
 use Rattle.register.specs.declared.types.Reader.{Reader}
-use Rattle.reader.specs.declared.types.Heard.the-variants.{Nothing}
+use Rattle.hearing.specs.declared.types.Heard.the-variants.{Nothing}
 use Rattle.reader.specs.declared.types.Blocked.{Blocked}
 use Rattle.register.specs.Held.{unreached}
 use Rattle.reader.specs.Blocks.{going, blockedOf}

@@ -10,7 +10,8 @@ use lib.ListN.{length, take}
 use Rattle.refusals.specs.Table.{no-room}
 use Rattle.refusals.specs.Answer.{Refusal, _when_, answer}
 use Rattle.runs.specs.Run.{noRoom, runAfter}
-use Rattle.reader.specs.declared.types.Heard.{Heard}
+use Rattle.hearing.specs.declared.types.Heard.{Heard}
+use Rattle.register.specs.declared.types.Ways.the-variants.{ForwardOnly}
 use Rattle.register.specs.Held.{freshOf}
 use Rattle.reader.specs.Steps.{readerRefusals}
 use Rattle.following.specs.Reach.{fed, answers}
@@ -21,9 +22,9 @@ use Rattle.scribe.specs.declared.types.Telling.{Telling}
 use Rattle.scribe.specs.declared.types.Told.{Told}
 use Rattle.scribe.specs.declared.types.Told.the-variants.{Lines, Refused}
 
--- "in mode 2", no bits so far, "16,777,216 characters in all"
+-- "in mode 2", forward only, no bits so far, "16,777,216 characters in all"
 abbrev pub freshScribe : Scribe
-freshScribe = record { reader = freshOf 2; bits = 0; left = 16777216 }
+freshScribe = record { reader = freshOf 2 ForwardOnly; bits = 0; left = 16777216 }
 
 -- the characters of a piece that count: no more than may still come
 abbrev pub counted : Scribe → List ℕ → List ℕ

@@ -13,11 +13,12 @@ use crate::types::Block;
 use crate::types::Scribe;
 use crate::types::Telling;
 use crate::types::Told;
-use reader::Heard;
+use hearing::Heard;
 use refusals::Verdict;
 use register::Reader;
+use register::Ways;
 
-// "in mode 2 .. after 16,777,216 characters in all"
+// "in mode 2 .. after 16,777,216 characters in all". It hears forward only.
 const MODE: u8 = 2;
 
 const CHARACTERS: usize = 16_777_216;
@@ -27,7 +28,7 @@ impl Scribe {
         ensures { λ s. ⌜ s ≡ freshScribe ⌝ }
     {
         Scribe {
-            reader: Reader::fresh(MODE),
+            reader: Reader::fresh(MODE, Ways::ForwardOnly),
             bits: 0,
             left: CHARACTERS,
         }

@@ -7,7 +7,7 @@ use Prim.Native.Nat.{ℕ}
 use borrow.Author.Needs.{needs}
 use Rattle.modes.specs.Modes.{unknown}
 use Rattle.register.specs.declared.types.Reader.{Reader}
-use Rattle.reader.specs.declared.types.Heard.the-variants.{Refused}
+use Rattle.hearing.specs.declared.types.Heard.the-variants.{Refused}
 use Rattle.reader.specs.declared.types.Blocked.{Blocked}
 use Rattle.register.specs.Held.{unreached}
 use Rattle.reader.specs.Blocks.{stopped, going, blockedOf}

@@ -5,7 +5,7 @@ use native.Mathlib.Omega.{arith}
 use borrow.Author.Needs.{needs}
 use Rattle.reader.specs.Feeding.{Feeding}
 use Rattle.reader.proofs.Turns.{feeding-ends, stops-before}
-use Rattle.reader.proofs.FeedTests.{begins, within, sound, pushed-sound, answered, unanswered}
+use Rattle.reader.proofs.FeedTests.{begins, within, sound, unsynced, answered, unanswered}
 use Rattle.reader.proofs.stepping.feed.Statement.{statement}
 use Rattle.reader.proofs.stepping.feed.Tie as tie
 
@@ -33,8 +33,11 @@ pushed-requires c κs = (search sound, omega arith)
 add-taken : tie.Need-add-taken Inv-loop μ-loop
 add-taken c = omega arith
 
-heard-requires : tie.Need-heard-requires Inv-loop μ-loop
-heard-requires c κs = search pushed-sound
+is-synced-requires : tie.Need-is-synced-requires Inv-loop μ-loop
+is-synced-requires c κs = search needs
+
+heard-apart-requires : tie.Need-heard-apart-requires Inv-loop μ-loop
+heard-apart-requires c κs = search needs
 
 is-answer-requires : tie.Need-is-answer-requires Inv-loop μ-loop
 is-answer-requires c κs = search needs
@@ -46,7 +49,22 @@ loop-less : tie.Need-loop-less Inv-loop μ-loop
 loop-less c = omega arith
 
 loop-again : tie.Need-loop-again Inv-loop μ-loop
-loop-again c = search unanswered
+loop-again c =
+    let told = c .before .before in
+    let taken = told .before .before .before in
+    unanswered _ _ _ _ _ _ (taken .before .before .before .before .loop .inv) (omega arith) (omega arith) _ (taken .pushed .ensures) _
+    (told .heard-apart .ensures)
+    _
+    (c .before .is-answer .ensures)
+    (search needs)
+    (search needs)
+    (c .if3 .left)
+
+loop-less-2 : tie.Need-loop-less-2 Inv-loop μ-loop
+loop-less-2 c = omega arith
+
+loop-again-2 : tie.Need-loop-again-2 Inv-loop μ-loop
+loop-again-2 c = search unsynced
 
 returns-3 : tie.Need-returns-3 Inv-loop μ-loop
 returns-3 c = search feeding-ends
@@ -63,9 +81,12 @@ feed-spec =
     returns
     pushed-requires
     add-taken
-    heard-requires
+    is-synced-requires
+    heard-apart-requires
     is-answer-requires
     returns-2
     loop-less
     loop-again
+    loop-less-2
+    loop-again-2
     returns-3)

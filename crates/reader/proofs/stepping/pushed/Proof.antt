@@ -12,10 +12,10 @@ use Rattle.reader.proofs.stepping.pushed.Statement.{statement}
 use Rattle.reader.proofs.stepping.pushed.Tie as tie
 
 module _ (r : Reader) (bit : ℕ) (passes : unreached r ≡ false) (small : bit < 2) (low : r .info < 2 ^ 64) (high : r .sync < 2 ^ 16) where
-  one-more : r .held < 80 → shiftedTo r bit (r .held + 1) ≡ readerWith (r .mode) (push (heldBits r) bit)
+  one-more : r .held < 80 → shiftedTo r bit (r .held + 1) ≡ readerWith (r .mode) (r .ways) (push (heldBits r) bit)
   one-more h = let next : min (r .held + 1) 80 ≡ r .held + 1 = omega arith in rw next at (shifted-is-pushed r low high passes bit small)
 
-  still-80 : 80 ≤ r .held → shiftedTo r bit 80 ≡ readerWith (r .mode) (push (heldBits r) bit)
+  still-80 : 80 ≤ r .held → shiftedTo r bit 80 ≡ readerWith (r .mode) (r .ways) (push (heldBits r) bit)
   still-80 h = let next : min (r .held + 1) 80 ≡ 80 = omega arith in rw next at (shifted-is-pushed r low high passes bit small)
 
 cast-oldest : tie.Need-cast-oldest
@@ -33,8 +33,8 @@ mul-sync c = search needs
 add-sync : tie.Need-add-sync
 add-sync c = search needs
 
-add-t13 : tie.Need-add-t13
-add-t13 c = search needs
+add-one-more : tie.Need-add-one-more
+add-one-more c = search needs
 
 returns : tie.Need-returns
 returns c = search (one-more, needs)
@@ -44,4 +44,4 @@ returns-2 c = search (still-80, needs)
 
 pub pushed-spec : {M : Type 1} → statement M
 pushed-spec =
-    tie.close (tie.spec cast-oldest mul-info add-info mul-sync add-sync add-t13 returns returns-2)
+    tie.close (tie.spec cast-oldest mul-info add-info mul-sync add-sync add-one-more returns returns-2)

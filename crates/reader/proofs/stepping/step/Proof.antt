@@ -8,11 +8,12 @@ use borrow.Author.Tests.{lt-ltb}
 use borrow.Author.Needs.{needs}
 use Rattle.modes.specs.Modes.{unknown}
 use Rattle.register.specs.declared.types.Reader.{Reader}
-use Rattle.reader.specs.declared.types.Heard.{Heard}
-use Rattle.reader.specs.declared.types.Heard.the-variants.{Refused}
+use Rattle.hearing.specs.declared.types.Heard.{Heard}
+use Rattle.hearing.specs.declared.types.Heard.the-variants.{Refused}
 use Rattle.register.specs.Held.{heldBits, push, readerWith, unreached}
-use Rattle.reader.specs.Steps.{after, heardIn, steppedOf}
-use Rattle.reader.proofs.Taken.{next-passes, step-taken}
+use Rattle.hearing.specs.Window.{heardIn}
+use Rattle.reader.specs.Steps.{after, steppedOf}
+use Rattle.reader.proofs.Taken.{step-taken}
 use Rattle.reader.proofs.stepping.step.Statement.{statement}
 use Rattle.reader.proofs.stepping.step.Tie as tie
 
@@ -38,13 +39,9 @@ module _ (r : Reader) (element : ℕ) (past : Bool) (asked : past ≡ unknown (r
       no-bit high = rw (known, passed, lt-ltb 1 element high)
 
       module _ (low : r .info < 2 ^ 64) (high : r .sync < 2 ^ 16) (bit : element ≤ 1) where
-        heard-of :
-            (next : Reader) → next ≡ readerWith (r .mode) (push (heldBits r) element) → unreached next ≡ false
-        heard-of = next-passes r element low high passed bit known
-
         taken :
-            (next : Reader) (heard : Heard) → next ≡ readerWith (r .mode) (push (heldBits r) element)
-            → heard ≡ heardIn (next .mode) (heldBits next) → after next heard ≡ steppedOf r element
+            (next : Reader) (heard : Heard) → next ≡ readerWith (r .mode) (r .ways) (push (heldBits r) element)
+            → heard ≡ heardIn (next .mode) (next .ways) (heldBits next) → after next heard ≡ steppedOf r element
         taken next heard pushes = step-taken r element low high passed bit known next pushes heard
 
 is-unknown-requires : tie.Need-is-unknown-requires
@@ -66,7 +63,7 @@ pushed-requires : tie.Need-pushed-requires
 pushed-requires c κs = (sym (c .before .before .is-unreached .ensures) ∙ c .before .if2 .left, omega arith)
 
 heard-requires : tie.Need-heard-requires
-heard-requires c κs = search (heard-of, needs)
+heard-requires c κs = search needs
 
 returns-4 : tie.Need-returns-4
 returns-4 c = search (taken, needs)

@@ -4,8 +4,8 @@ use Prim.Native.Nat.{ℕ}
 use mathlib.Core.Path.{_≡_, sym, ap}
 use borrow.Author.Needs.{needs}
 use Rattle.refusals.specs.declared.types.Verdict.the-variants.{Refused as Unsound}
-use Rattle.reader.specs.declared.types.Heard.{Heard}
-use Rattle.reader.specs.declared.types.Heard.the-variants.{Refused}
+use Rattle.hearing.specs.declared.types.Heard.{Heard}
+use Rattle.hearing.specs.declared.types.Heard.the-variants.{Refused}
 use Rattle.scribe.specs.Blocks.{verdictIn}
 use Rattle.scribe.proofs.copying.verdict.Statement.{statement}
 use Rattle.scribe.proofs.copying.verdict.Tie as tie
