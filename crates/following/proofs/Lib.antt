@@ -28,7 +28,6 @@ pub mod StepsCounted
 -- Demand3   each word is reported, as itself, at its 80th bit
 -- Turns     a run that turns, inside a word or anywhere
 -- Tight     after fewer bits the demand could not be met
--- Either    the two looks: their order is no choice, and complaints are only forward
 -- Impostors one that never reports, refuses each word, reports one fixed address, gives something else for uncorrected or backward words fails it
 pub mod Digits
 pub mod Apart
@@ -43,5 +42,4 @@ pub mod Heeded
 pub mod Demand3
 pub mod Turns
 pub mod Tight
-pub mod Either
 pub mod Impostors

@@ -1,5 +1,6 @@
--- The two looks of a reader that hears both ways: never both answer, their order is no choice, and complaints are given only for windows that end in the
--- forward sync word.
+-- What is heard in a window, whatever its bits are. A3: "With reverse allowed, a window of 80 bits that reads backwards as an accepted word is reported as such,
+-- with its direction. A window may not be both; prove it. Complaints are given only for windows that end in the forward sync word, so a bad reversed word is
+-- passed over."
 -- Assumes nothing.
 use Prim.Native.Nat.{ℕ}
 use mathlib.Core.Path.{_≡_, refl, sym, ap, ap₂, _∙_}
@@ -27,24 +28,30 @@ use Rattle.hearing.specs.declared.types.Heard.{Heard}
 use Rattle.hearing.specs.declared.types.Heard.the-variants.{Nothing, Accepted, Refused}
 use Rattle.hearing.specs.Window.{reporting, told, forwardIn, backwardIn, orElse, heardIn}
 use Rattle.reader.specs.Blocks.{isAnswer}
 use Rattle.following.specs.Following.{CodeWord}
 use Rattle.following.proofs.Synced.{not-both-ways}
 use Rattle.following.proofs.Quiet.{backward-silent}
 use Rattle.following.proofs.Whole.{heard-forward, heard-backward}
 
 or-nothing : (heard : Heard) → orElse heard Nothing ≡ heard
 or-nothing Nothing = refl
 or-nothing (Accepted report) = refl
 or-nothing (Refused n) = refl
 
--- a reader that hears forward only hears what document 01 says
+-- A reader to which reverse is not allowed hears what document 01 says.
 pub forward-only-as-before : (mode : ℕ) (bits : List ℕ) → heardIn mode ForwardOnly bits ≡ forwardIn mode bits
 unfolding heardIn backwardIn
 forward-only-as-before mode bits = or-nothing (forwardIn mode bits)
 
+-- "A window may not be both; prove it": one that ends in the forward sync word, accepted or refused, is not accepted when it is turned round.
+pub not-accepted-turned :
+    (mode : ℕ) (window : List ℕ) → drop 64 window ≡ syncWord → (r : Record) (found : Found) → readOf mode (reverse window) ≡ Holds r found → ⊥
+not-accepted-turned mode window ends r found read =
+    not-both-ways window ends record { bits = reverse window; says = r; found = found; accepted = read } refl
+
 module _ (mode : ℕ) (bits : List ℕ) where
   -- an answer forward is of 80 bits that end in the sync word
-  pub forward-ends : isAnswer (forwardIn mode bits) ≡ true → (length bits ≡ 80) × (drop 64 bits ≡ syncWord)
+  forward-ends : isAnswer (forwardIn mode bits) ≡ true → (length bits ≡ 80) × (drop 64 bits ≡ syncWord)
   unfolding forwardIn
   forward-ends = go (eqb (length bits) 80 && same (drop 64 bits) syncWord) refl
     where
@@ -55,13 +62,13 @@ module _ (mode : ℕ) (bits : List ℕ) where
           (eqb-true (length bits) 80 (both .0), same-elements (drop 64 bits) syncWord (both .1))
       go false t e = absurd (true≢false (sym e))
 
-  -- "A window may not be both": where an answer is heard forward, be it a record or a number, nothing is heard backward
+  -- So where an answer is heard forward, be it a record or a number, nothing is heard backward,
   pub never-both : (ways : Ways) → isAnswer (forwardIn mode bits) ≡ true → backwardIn mode ways bits ≡ Nothing
   unfolding backwardIn
   never-both ForwardOnly answered = refl
   never-both Both answered = backward-silent mode bits Both (not-both-ways bits (forward-ends answered .1))
 
-  -- so the order of the two looks is no choice
+  -- and which of the two looks comes first is no choice.
   pub either-order : (ways : Ways) → heardIn mode ways bits ≡ orElse (backwardIn mode ways bits) (forwardIn mode bits)
   unfolding heardIn
   either-order ways = go (forwardIn mode bits) (backwardIn mode ways bits) (never-both ways)
@@ -131,7 +138,7 @@ told-refused (Holds r found) n e = let one : _≡_ {A = ℕ} 1 2 = ap kind e in 
 told-refused (Unheld k) n e = ap Unheld (ap numberIn e)
 
 module _ (mode : ℕ) (ways : Ways) (bits : List ℕ) where
-  -- a report forward: exactly of a window that is an accepted word
+  -- A report forward: exactly of a window that is an accepted word, whatever is allowed.
   pub forward-exactly : (r : Record) (found : Found) → (heardIn mode ways bits ≡ Accepted (reporting r found Forward)) ↔ (readOf mode bits ≡ Holds r found)
   unfolding kind reportIn runsBackward
   forward-exactly r found =
@@ -143,7 +150,7 @@ module _ (mode : ℕ) (ways : Ways) (bits : List ℕ) where
           absurd (true≢false (ap (λ (heard : Heard). runsBackward (reportIn (reporting r found Forward) heard .way)) (sym is ∙ e)))
       there (neither is) e = let none : _≡_ {A = ℕ} 0 1 = ap kind (sym is ∙ e) in absurd (omega arith)
 
-  -- "With reverse allowed, a window of 80 bits that reads backwards as an accepted word is reported as such, with its direction": exactly such a window
+  -- "With reverse allowed, a window of 80 bits that reads backwards as an accepted word is reported as such, with its direction": exactly such a window.
   pub backward-exactly :
       (r : Record) (found : Found)
       → (heardIn mode ways bits ≡ Accepted (reporting r found Backward)) ↔ ((ways ≡ Both) × (readOf mode (reverse bits) ≡ Holds r found))
@@ -163,7 +170,8 @@ module _ (mode : ℕ) (ways : Ways) (bits : List ℕ) where
           ap₂ (λ (w : Ways) (l : List ℕ). heardIn mode w l) (given .0) (sym (reverse-reverse bits))
           ∙ heard-backward record { bits = reverse bits; says = r; found = found; accepted = given .1 }
 
-  -- "Complaints are given only for windows that end in the forward sync word", and there for what they are refused by
+  -- "Complaints are given only for windows that end in the forward sync word, so a bad reversed word is passed over": exactly for those that are refused,
+  -- and by their number. These three leave nothing open: what is none of them is answered with nothing.
   pub complaint-exactly :
       (n : ℕ) → (heardIn mode ways bits ≡ Refused n) ↔ ((length bits ≡ 80) × (drop 64 bits ≡ syncWord) × (readOf mode bits ≡ Unheld n))
   unfolding kind heardIn forwardIn
