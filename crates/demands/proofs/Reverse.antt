@@ -1,13 +1,16 @@
 -- Demand 3 as A3 changes it: "forward or backward words, all one way, are each reported at their last bit, and false reports are shut out only after the last
 -- bit of the first whole word. A fed run that turns in the middle is covered again from the first whole word after the turn."
 -- Assumes nothing.
-use Prim.Native.Nat.{ℕ, _<_}
+use Prim.Native.Nat.{ℕ, _+_, _<_, _≤_}
 use mathlib.Core.Path.{_≡_}
 use mathlib.Core.Bool.{false}
-use mathlib.Core.List.{List, _++_}
+use mathlib.Core.List.{List, [], _++_, reverse}
 use native.Mathlib.Omega.{arith}
-use lib.ListN.{drop}
+use lib.ListN.{length, take, drop}
+use Rattle.bits.specs.Bits.{AllBits}
+use Rattle.record.specs.declared.types.Record.{Record}
 use Rattle.modes.specs.Modes.{unknown}
+use Rattle.polarity.specs.declared.types.Found.the-variants.{Uncorrected}
 use Rattle.register.specs.declared.types.Reader.{Reader}
 use Rattle.register.specs.declared.types.Ways.the-variants.{Both}
 use Rattle.hearing.specs.declared.types.Way.{Way}
@@ -16,11 +19,13 @@ use Rattle.hearing.specs.declared.types.Report.{Report}
 use Rattle.hearing.specs.declared.types.Heard.{Heard}
 use Rattle.hearing.specs.declared.types.Heard.the-variants.{Accepted}
 use Rattle.hearing.specs.Window.{reporting}
+use Rattle.hearing.specs.Looks.{running}
 use Rattle.following.specs.Reach.{fed, answers, Reached}
-use Rattle.following.specs.Following.{CodeWord, endToEnd, eachAsItself, FollowsAfter, FollowsInBlocksAfter, beforeItsLast, FollowsBothWays, turnedFrom, turnInside}
+use Rattle.following.specs.Cuts.{Cut, inBlocks, AllOpen}
+use Rattle.following.specs.Following.{CodeWord, endToEnd, eachAsItself, FollowsAfter, FollowsInBlocksAfter, beforeItsLast}
 use Rattle.following.specs.Following.Settles.{both-forward, both-backward}
 use Rattle.following.proofs.Demand3.{follows, in-blocks, demand-3-both-ways}
-use Rattle.following.proofs.Turns.{covered-again, turned-run}
+use Rattle.following.proofs.Turns.{covered-again, covered-again-in-blocks, turned-run}
 use Rattle.following.proofs.Tight.{tight}
 use Rattle.following.proofs.Impostors as impostors
 
@@ -62,26 +67,49 @@ pub after-a-turn :
     → drop beforeItsLast (answers (fed reader before) (endToEnd way words)) ≡ drop beforeItsLast (eachAsItself way words)
 after-a-turn way = covered-again beforeItsLast Both way (demand-3-both-ways way)
 
--- And so of words one way, then some bits of a word and the same bits back, and then words the other way: the answers are those of the three parts, and the
--- first and the last are covered.
+-- And of a whole run of bits, in blocks cut anywhere, some of which may stand across the turn, with the reader that single steps leave.
+pub after-a-turn-in-blocks :
+    (way : Way) (reader : Reader) → Reached reader → unknown (reader .mode) ≡ false → reader .ways ≡ Both
+    → (before : List ℕ) → AllBits before → (words : List (CodeWord (reader .mode))) (cuts : List Cut)
+    → AllOpen cuts → length (before ++ endToEnd way words) ≤ length cuts
+    → (inBlocks reader cuts (before ++ endToEnd way words) .left ≡ [])
+    × (drop (length before + beforeItsLast) (inBlocks reader cuts (before ++ endToEnd way words) .heard) ≡ drop beforeItsLast (eachAsItself way words))
+    × (inBlocks reader cuts (before ++ endToEnd way words) .reader ≡ fed reader (before ++ endToEnd way words))
+after-a-turn-in-blocks way = covered-again-in-blocks beforeItsLast Both way (demand-3-both-ways way)
+
+-- So where the tape turns inside a word: words one way, then so many bits of a word and the same bits back, and then words the other way, or again the
+-- same. The answers are those of the three parts, and the first and the last are covered.
 pub turns-inside-a-word :
-    (reader : Reader) → Reached reader → unknown (reader .mode) ≡ false → reader .ways ≡ Both
-    → (way : Way) (words : List (CodeWord (reader .mode))) (word : CodeWord (reader .mode)) (places : ℕ) (later : List (CodeWord (reader .mode)))
-    → (answers reader ((endToEnd way words ++ turnInside way word places) ++ endToEnd (turnedFrom way) later)
-    ≡ (answers reader (endToEnd way words) ++ answers (fed reader (endToEnd way words)) (turnInside way word places))
-    ++ answers (fed reader (endToEnd way words ++ turnInside way word places)) (endToEnd (turnedFrom way) later))
+    (reader : Reader) → Reached reader → unknown (reader .mode) ≡ false → reader .ways ≡ Both → (way next : Way) (words : List (CodeWord (reader .mode)))
+    (word : CodeWord (reader .mode)) (places : ℕ) (later : List (CodeWord (reader .mode)))
+    → (answers reader
+    ((endToEnd way words ++ (take places (running way (word .bits)) ++ reverse (take places (running way (word .bits))))) ++ endToEnd next later)
+    ≡ (answers reader (endToEnd way words)
+    ++ answers (fed reader (endToEnd way words)) (take places (running way (word .bits)) ++ reverse (take places (running way (word .bits)))))
+    ++ answers
+    (fed reader (endToEnd way words ++ (take places (running way (word .bits)) ++ reverse (take places (running way (word .bits))))))
+    (endToEnd next later))
     × (drop beforeItsLast (answers reader (endToEnd way words)) ≡ drop beforeItsLast (eachAsItself way words))
-    × (drop beforeItsLast (answers (fed reader (endToEnd way words ++ turnInside way word places)) (endToEnd (turnedFrom way) later))
-    ≡ drop beforeItsLast (eachAsItself (turnedFrom way) later))
+    × (drop beforeItsLast
+    (answers
+    (fed reader (endToEnd way words ++ (take places (running way (word .bits)) ++ reverse (take places (running way (word .bits))))))
+    (endToEnd next later))
+    ≡ drop beforeItsLast (eachAsItself next later))
 turns-inside-a-word = turned-run
 
 -- Whatever an impostor gives for each report, be it nothing, a number or one fixed record, it does not follow, whichever way the words run; nor does one that
--- gives, even of one word that runs backward, anything but its report: that tells it as forward, with other groups, or with nothing where it is uncorrected.
+-- gives anything but its report for each uncorrected word; nor one that does so even of one word that runs backward: that tells it as forward, say, or with
+-- other groups.
 pub no-impostor-either-way : (way : Way) (other : Heard) → FollowsAfter beforeItsLast Both way (impostors.relaying (impostors.always other)) → ⊥
 no-impostor-either-way way = impostors.no-impostor beforeItsLast Both way (demand-3-both-ways way) (omega arith)
+
+pub no-impostor-of-uncorrected-either-way :
+    (way : Way) (other : Record → Heard) → ((r : Record) → other r ≡ Accepted (reporting r Uncorrected way) → ⊥)
+    → FollowsAfter beforeItsLast Both way (impostors.relaying (impostors.uncorrectedAs other)) → ⊥
+no-impostor-of-uncorrected-either-way way = impostors.no-impostor-of-uncorrected beforeItsLast Both way (demand-3-both-ways way) (omega arith)
 
 pub no-impostor-of-backward :
     (other : Report → Heard) (mode : ℕ) → unknown mode ≡ false → (word : CodeWord mode)
     → (other (reporting (word .says) (word .found) Backward) ≡ Accepted (reporting (word .says) (word .found) Backward) → ⊥)
-    → FollowsBothWays (impostors.relaying (impostors.backwardAs other)) → ⊥
+    → FollowsAfter beforeItsLast Both Backward (impostors.relaying (impostors.backwardAs other)) → ⊥
 no-impostor-of-backward = impostors.no-impostor-of-backward

@@ -2,7 +2,7 @@
 -- with its direction. A window may not be both; prove it. Complaints are given only for windows that end in the forward sync word, so a bad reversed word is
 -- passed over."
 -- Assumes nothing.
-use Prim.Native.Nat.{ℕ}
+use Prim.Native.Nat.{ℕ, _≤_}
 use mathlib.Core.Path.{_≡_, refl, sym, ap, ap₂, _∙_}
 use mathlib.Core.Bool.{Bool, true, false, _&&_, cond, true≢false}
 use mathlib.Core.List.{List, reverse, reverse-reverse}
@@ -10,7 +10,7 @@ use mathlib.Core.Logic.{_↔_}
 use native.Mathlib.Omega.{arith}
 use lib.Dec.{eqb}
 use lib.ListN.{length, drop}
-use borrow.Author.Tests.{eqb-true, eq-eqb}
+use borrow.Author.Tests.{eqb-true, eq-eqb, le-ltb}
 use Rattle.runs.specs.Run.{same}
 use Rattle.runs.proofs.Same.{same-elements, same-itself, both-true}
 use Rattle.record.specs.declared.types.Record.{Record}
@@ -19,6 +19,8 @@ use Rattle.polarity.specs.declared.types.Word.{Word}
 use Rattle.polarity.specs.declared.types.Word.the-variants.{Holds, Refused as Unheld}
 use Rattle.polarity.specs.Word.{syncWord}
 use Rattle.ltc.specs.Calls.{readOf}
+use Rattle.modes.specs.Modes.{unknown}
+use Rattle.register.specs.declared.types.Reader.{Reader}
 use Rattle.register.specs.declared.types.Ways.{Ways}
 use Rattle.register.specs.declared.types.Ways.the-variants.{ForwardOnly, Both}
 use Rattle.hearing.specs.declared.types.Way.{Way}
@@ -27,8 +29,13 @@ use Rattle.hearing.specs.declared.types.Report.{Report}
 use Rattle.hearing.specs.declared.types.Heard.{Heard}
 use Rattle.hearing.specs.declared.types.Heard.the-variants.{Nothing, Accepted, Refused}
 use Rattle.hearing.specs.Window.{reporting, told, forwardIn, backwardIn, orElse, heardIn}
+use Rattle.register.specs.Held.{heldBits, push, readerWith}
+use Rattle.reader.specs.declared.types.Stepped.{Stepped}
+use Rattle.reader.specs.Steps.{steppedOf}
 use Rattle.reader.specs.Blocks.{isAnswer}
+use Rattle.following.specs.Reach.{Reached}
 use Rattle.following.specs.Following.{CodeWord}
+use Rattle.following.proofs.Passing.{passing-takes, reached-passing}
 use Rattle.following.proofs.Synced.{not-both-ways}
 use Rattle.following.proofs.Quiet.{backward-silent}
 use Rattle.following.proofs.Whole.{heard-forward, heard-backward}
@@ -186,3 +193,13 @@ module _ (mode : ℕ) (ways : Ways) (bits : List ℕ) where
       back given =
           let synced : same (drop 64 bits) syncWord ≡ true = rw (given .1) (same-itself syncWord) in
           rw (eq-eqb (length bits) 80 (given .0), synced, given .2)
+
+-- The window of a reader: a step from a state that feeding reaches answers what is heard in the bits that it then holds, its last 80 or fewer, and the reader
+-- after it, of the same mode and ways, holds these.
+pub a-step-hears :
+    (reader : Reader) → Reached reader → unknown (reader .mode) ≡ false → (bit : ℕ) → bit ≤ 1
+    → (steppedOf reader bit .heard ≡ heardIn (reader .mode) (reader .ways) (push (heldBits reader) bit))
+    × (steppedOf reader bit .reader ≡ readerWith (reader .mode) (reader .ways) (push (heldBits reader) bit))
+a-step-hears reader reached known bit small =
+    let takes = passing-takes reader bit (reached-passing reader known reached) (le-ltb 1 bit small) in
+    (ap (λ (s : Stepped). s .heard) takes, ap (λ (s : Stepped). s .reader) takes)

@@ -10,6 +10,8 @@ use lib.Dec.{ltb}
 use lib.ListN.{length, take, drop, replicate, take-append-drop, length-drop}
 use lib.Seq.{drop-at, drop-drop, length-take-le}
 use borrow.Author.Tests.{ltb-true, ltb-false}
+use Rattle.modes.specs.Modes.{unknown}
+use Rattle.register.specs.declared.types.Reader.{Reader}
 use Rattle.register.specs.declared.types.Ways.{Ways}
 use Rattle.register.specs.declared.types.Ways.the-variants.{Both}
 use Rattle.hearing.specs.declared.types.Way.{Way}
@@ -17,7 +19,8 @@ use Rattle.hearing.specs.declared.types.Way.the-variants.{Forward, Backward}
 use Rattle.hearing.specs.declared.types.Heard.{Heard}
 use Rattle.hearing.specs.declared.types.Heard.the-variants.{Nothing, Accepted}
 use Rattle.hearing.specs.Window.{reporting, heardIn}
-use Rattle.following.specs.Reach.{answers}
+use Rattle.following.specs.Reach.{answers, Reached}
+use Rattle.following.specs.Cuts.{Cut, inBlocks}
 use Rattle.register.specs.Held.{heldBits, latest}
 use Rattle.hearing.specs.Looks.{running}
 use Rattle.following.specs.Following.{CodeWord, endToEnd, eachAsItself, FollowsAfter, FollowsInBlocksAfter, Follows, beforeItsLast, FollowsBothWays, Settles}
@@ -113,14 +116,24 @@ module _ (bits : ℕ) (ways : Ways) (way : Way) where
       ∙ ap (drop (more - bits)) (follow reader reached known hears words)
       ∙ drop-drop (more - bits) bits (eachAsItself way words))
 
-  -- and of blocks
+  -- and of blocks, whatever the cuts are, where they come to the end
+  pub to-the-end :
+      FollowsAfter bits ways way answers
+      → (reader : Reader) → Reached reader → unknown (reader .mode) ≡ false → reader .ways ≡ ways → (words : List (CodeWord (reader .mode))) (cuts : List Cut)
+      → inBlocks reader cuts (endToEnd way words) .left ≡ []
+      → drop bits (inBlocks reader cuts (endToEnd way words) .heard) ≡ drop bits (eachAsItself way words)
+  to-the-end follow reader reached known hears words cuts ended =
+      ap (drop bits) (cut-to-the-end reader known reached cuts (endToEnd way words) (words-clean way words) ended .0)
+      ∙ follow reader reached known hears words
+
+  -- as they do where each may take a bit
   pub in-blocks : FollowsAfter bits ways way answers → FollowsInBlocksAfter bits ways way
   in-blocks follow reader reached known hears words cuts each enough =
       let run = endToEnd way words in
       let clean = words-clean way words in
       let ended = comes-to-the-end reader known reached cuts run clean each enough in
       let same = cut-to-the-end reader known reached cuts run clean ended in
-      (ended, same .0, ap (drop bits) (same .0) ∙ follow reader reached known hears words, same .1)
+      (ended, same .0, to-the-end follow reader reached known hears words cuts ended, same .1)
 
 pub demand-3 : Follows answers
 demand-3 = follows forward-only

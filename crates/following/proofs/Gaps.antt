@@ -66,8 +66,8 @@ covers-none word k (place ∷ places) apart within covering ones = go (ltb (plac
         apart .0 (ones place (omega arith) (omega arith) (omega arith)) (ones (place + 1) (omega arith) (omega arith) (omega arith))
     go false t rest = rest (rw t at covering)
 
--- Twelve ones of a window that lies over an accepted word: however far on, from where six places of the word are left before the end of the ones to where
--- the ones begin at its last but two, they begin at the word's own twelve.
+-- Twelve ones of a window that lies over an accepted word lie over the word's own twelve, or reach out of the word: at its beginning so far that three of them
+-- at most are over it, or at its end so far that two of its places at most are under them.
 module _
     (window word : List ℕ) (a b from : ℕ) (over : Over window a word b) (level : (a ≡ 0) ⊎ (b ≡ 0)) (early : from ≤ 66)
     (ones : (place : ℕ) → from ≤ place → place < from + 12 → getD window place 0 ≡ 1) (low : a ≤ from + b + 8) (high : from + b ≤ 77 + a) where

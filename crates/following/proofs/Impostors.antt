@@ -28,7 +28,7 @@ use Rattle.hearing.specs.declared.types.Heard.the-variants.{Nothing, Accepted, 
 use Rattle.register.specs.Held.{freshOf}
 use Rattle.hearing.specs.Window.{reporting}
 use Rattle.following.specs.Reach.{fed, answers, Reached}
-use Rattle.following.specs.Following.{CodeWord, endToEnd, eachAsItself, FollowsAfter, beforeItsLast, FollowsBothWays}
+use Rattle.following.specs.Following.{CodeWord, endToEnd, eachAsItself, FollowsAfter, beforeItsLast}
 use Rattle.following.proofs.Demand3.{demand-3-both-ways}
 use Rattle.following.proofs.Tight.{same-later, midnight, seven}
 
@@ -126,6 +126,6 @@ backwardAs other (Refused n) = Refused n
 pub no-impostor-of-backward :
     (other : Report → Heard) (mode : ℕ) → unknown mode ≡ false → (word : CodeWord mode)
     → (other (reporting (word .says) (word .found) Backward) ≡ Accepted (reporting (word .says) (word .found) Backward) → ⊥)
-    → FollowsBothWays (relaying (backwardAs other)) → ⊥
+    → FollowsAfter beforeItsLast Both Backward (relaying (backwardAs other)) → ⊥
 no-impostor-of-backward other mode known word unlike follow =
-    unlike (honest beforeItsLast Both Backward (demand-3-both-ways Backward) (omega arith) (backwardAs other) (follow Backward) mode known word)
+    unlike (honest beforeItsLast Both Backward (demand-3-both-ways Backward) (omega arith) (backwardAs other) follow mode known word)

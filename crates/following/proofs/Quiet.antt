@@ -1,4 +1,4 @@
--- Nothing is heard in a window that lies over a code word as it runs, neither the word itself nor too far from it.
+-- Nothing is heard in a window that lies over a code word as it runs, but so many places on or back, unless that is too far.
 -- Assumes nothing.
 use Prim.Native.Nat.{ℕ, _+_, _-_, _<_, _≤_}
 use mathlib.Core.Path.{_≡_, refl, sym, ap, subst, _∙_}
@@ -98,7 +98,7 @@ module _ {mode : ℕ} (word : CodeWord mode) (window : List ℕ) (a b : ℕ) (le
   unturned both-forward lies low high = forward-unturned lies (omega arith) (omega arith)
   unturned both-backward lies low high = backward-unturned lies (omega arith) (omega arith)
 
--- after the fifth bit, and no earlier
+-- none is settled before the fifth bit, and all are some bits before the last
 pub settles-late : {ways : Ways} {way : Way} {from : ℕ} → Settles ways way from → (settled ≤ from) × (from < 75)
 settles-late forward-only = (omega arith, omega arith)
 settles-late both-forward = (omega arith, omega arith)

@@ -11,6 +11,7 @@ use lib.Seq.{getD-drop}
 use Rattle.bits.specs.Bits.{value, toBits, someAbove, howMany}
 use Rattle.runs.specs.Run.{same}
 use Rattle.rates.specs.declared.types.Flag.the-variants.{No}
+use Rattle.record.specs.declared.types.Record.{Record}
 use Rattle.record.specs.Record.{recordOf, marked}
 use Rattle.modes.specs.Modes.{unknown, rateAt}
 use Rattle.modes.specs.Calls.{recordIn}
@@ -43,10 +44,14 @@ unfoldable pub seven : CodeWord 2
 unfolding readOf recordOf oddZeros howMany toBits value someAbove same syncWord unknown rateAt
 seven = record { bits = wordWith (2 ^ 27 + 2 ^ 4 + 7); says = marked No (recordIn 2 (2 ^ 27 + 2 ^ 4 + 7)); found = Corrected; accepted = refl }
 
--- 00:00:00:07, groups 0: it begins with 1, 1, 1, 0, 0, as the sync word turned round ends, and its zeros are even with the polarity bit 0
-unfoldable sevenAlone : CodeWord 2
+-- 00:00:00:07 and group 8 set to 1: it begins with 1, 1, 1, 0, 0, as the sync word turned round ends
+unfoldable sevenLast : CodeWord 2
 unfolding readOf recordOf oddZeros howMany toBits value someAbove same syncWord unknown rateAt
-sevenAlone = record { bits = wordWith 7; says = marked No (recordIn 2 7); found = Corrected; accepted = refl }
+sevenLast = record { bits = wordWith (2 ^ 60 + 2 ^ 27 + 7); says = marked No (recordIn 2 (2 ^ 60 + 2 ^ 27 + 7)); found = Corrected; accepted = refl }
+
+-- 00:20:00:17
+unfoldable seventeen : Record
+seventeen = marked No (recordIn 2 (2 ^ 41 + 2 ^ 8 + 7))
 
 pub same-later : (bits place : ℕ) (xs ys : List Heard) → bits ≤ place → drop bits xs ≡ drop bits ys → getD xs place Nothing ≡ getD ys place Nothing
 same-later bits place xs ys low same =
@@ -76,10 +81,10 @@ forward-only-early : (bits : ℕ) → bits ≤ 4 → FollowsAfter bits ForwardOn
 unfolding fed answers endToEnd eachAsItself steppedOf heardIn forwardIn backwardIn readerWith unreached toBits value howMany syncWord seven midnight readOf recordOf oddZeros someAbove same unknown rateAt
 forward-only-early = tight-here ForwardOnly Forward (take 75 (midnight .bits)) seven 4 (reporting (midnight .says) (midnight .found) Forward) refl refl
 
--- 1, 0 and nine ones, which the first 69 bits of a word, turned round, complete
+-- after 1, 0 and nine ones, the first 69 bits of a word complete what reads backwards as a word: 00:00:00:07 is taken for 00:20:00:17
 both-forward-early : (bits : ℕ) → bits ≤ 68 → FollowsAfter bits Both Forward answers → ⊥
-unfolding fed answers endToEnd eachAsItself steppedOf heardIn forwardIn backwardIn readerWith unreached toBits value howMany syncWord sevenAlone readOf recordOf oddZeros someAbove same unknown rateAt
-both-forward-early = tight-here Both Forward (1 ∷ 0 ∷ replicate 9 1) sevenAlone 68 (reporting (sevenAlone .says) (sevenAlone .found) Backward) refl refl
+unfolding fed answers endToEnd eachAsItself steppedOf heardIn forwardIn backwardIn readerWith unreached toBits value howMany syncWord sevenLast seventeen readOf recordOf oddZeros someAbove same unknown rateAt
+both-forward-early = tight-here Both Forward (1 ∷ 0 ∷ replicate 9 1) sevenLast 68 (reporting seventeen Corrected Backward) refl refl
 
 -- and where a track that runs backward breaks off five bits before the end of a word, the first five of the next
 both-backward-early : (bits : ℕ) → bits ≤ 4 → FollowsAfter bits Both Backward answers → ⊥

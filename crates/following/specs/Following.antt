@@ -7,8 +7,8 @@
 use Prim.Native.Nat.{ℕ, _≤_}
 use mathlib.Core.Path.{_≡_}
 use mathlib.Core.Bool.{false}
-use mathlib.Core.List.{List, [], _∷_, _++_, reverse}
-use lib.ListN.{length, take, drop, replicate}
+use mathlib.Core.List.{List, [], _∷_, _++_}
+use lib.ListN.{length, drop, replicate}
 use Rattle.record.specs.declared.types.Record.{Record}
 use Rattle.modes.specs.Modes.{unknown}
 use Rattle.polarity.specs.declared.types.Found.{Found}
@@ -84,12 +84,3 @@ pub data Settles : Ways → Way → ℕ → Type 0 where
   forward-only : Settles ForwardOnly Forward settled
   both-forward : Settles Both Forward 69
   both-backward : Settles Both Backward 5
-
--- the other way
-abbrev pub turnedFrom : Way → Way
-turnedFrom Forward = Backward
-turnedFrom Backward = Forward
-
--- "A fed run that turns": so many bits of a word, and the same bits back
-abbrev pub turnInside : {mode : ℕ} → Way → CodeWord mode → ℕ → List ℕ
-turnInside way word places = let part = take places (running way (word .bits)) in part ++ reverse part

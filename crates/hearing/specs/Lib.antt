@@ -1,4 +1,4 @@
 -- Window    what is heard in the bits that a reader holds
--- Looks     how a register is looked at before a word is read in it
+-- Looks     which way bits run, and where the sync word stands in a register
 pub mod Window
 pub mod Looks

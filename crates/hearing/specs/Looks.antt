@@ -1,4 +1,4 @@
--- How a register is looked at before a word is read in it: where the sync word stands, and which way the bits run.
+-- Which way bits run; and where the sync word stands in a register, which is looked at before a word is read in it.
 -- Assumes nothing.
 use Prim.Native.Nat.{ℕ}
 use mathlib.Core.Bool.{Bool, true, false, _&&_, _||_}
@@ -23,7 +23,7 @@ abbrev pub reverses : Ways → Bool
 reverses ForwardOnly = false
 reverses Both = true
 
--- the sync word stands in the register as it does in a word: at its end or, "with reverse allowed", turned round at its beginning
+-- the sync word stands in the register as it does in a word: at its end or, where reverse is allowed, turned round at its beginning
 unfoldable pub synced : Reader → Bool
 synced reader =
     same (drop 64 (register reader)) syncWord || (reverses (reader .ways) && same (take 16 (register reader)) (reverse syncWord))

@@ -35,7 +35,7 @@ told (Unheld n) = Refused n
 unfoldable pub forwardIn : ℕ → List ℕ → Heard
 forwardIn mode bits = cond (eqb (length bits) 80 && same (drop 64 bits) syncWord) (told (readOf mode bits)) Nothing
 
--- only "with reverse allowed"; and what is not accepted "is passed over"
+-- "With reverse allowed", and else nothing; and what is not accepted "is passed over"
 abbrev pub toldBackward : Ways → Word → Heard
 toldBackward ForwardOnly word = Nothing
 toldBackward Both (Holds r found) = Accepted (reporting r found Backward)

@@ -74,7 +74,7 @@ pub fn step(reader: Reader, element: u8) -> Stepped
     }
 }
 
-// What is heard in a copy: a reader that is lent to a call from within a loop is not kept in registers there.
+// What is heard in a copy of the reader: so that the loop of a block need not keep its own in memory for the sake of the call.
 fn heard_apart(reader: Reader) -> Heard
     ensures { λ r. ⌜ r ≡ heardIn (reader .mode) (reader .ways) (heldBits reader) ⌝ }
 {

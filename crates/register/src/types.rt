@@ -1,4 +1,4 @@
-// The ways in which a reader hears words: forward only, or both, "with reverse allowed". It is said when the reader is made and stays for its life.
+// The ways in which a reader hears words: forward only or, "With reverse allowed", both. It is said when the reader is made and stays for its life.
 pub enum Ways {
     ForwardOnly,
     Both,
