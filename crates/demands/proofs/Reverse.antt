@@ -67,12 +67,13 @@ pub after-a-turn :
     → drop beforeItsLast (answers (fed reader before) (endToEnd way words)) ≡ drop beforeItsLast (eachAsItself way words)
 after-a-turn way = covered-again beforeItsLast Both way (demand-3-both-ways way)
 
--- And of a whole run of bits, in blocks cut anywhere, some of which may stand across the turn, with the reader that single steps leave.
+-- And of a whole run of bits, in blocks cut anywhere, some of which may stand across the turn, with the answers of single steps and the reader that they leave.
 pub after-a-turn-in-blocks :
     (way : Way) (reader : Reader) → Reached reader → unknown (reader .mode) ≡ false → reader .ways ≡ Both
     → (before : List ℕ) → AllBits before → (words : List (CodeWord (reader .mode))) (cuts : List Cut)
     → AllOpen cuts → length (before ++ endToEnd way words) ≤ length cuts
     → (inBlocks reader cuts (before ++ endToEnd way words) .left ≡ [])
+    × (inBlocks reader cuts (before ++ endToEnd way words) .heard ≡ answers reader (before ++ endToEnd way words))
     × (drop (length before + beforeItsLast) (inBlocks reader cuts (before ++ endToEnd way words) .heard) ≡ drop beforeItsLast (eachAsItself way words))
     × (inBlocks reader cuts (before ++ endToEnd way words) .reader ≡ fed reader (before ++ endToEnd way words))
 after-a-turn-in-blocks way = covered-again-in-blocks beforeItsLast Both way (demand-3-both-ways way)

@@ -81,6 +81,7 @@ module _
   pub covered-again-in-blocks :
       (cuts : List Cut) → AllOpen cuts → length (before ++ endToEnd way words) ≤ length cuts
       → (inBlocks reader cuts (before ++ endToEnd way words) .left ≡ [])
+      × (inBlocks reader cuts (before ++ endToEnd way words) .heard ≡ answers reader (before ++ endToEnd way words))
       × (drop (length before + bits) (inBlocks reader cuts (before ++ endToEnd way words) .heard) ≡ drop bits (eachAsItself way words))
       × (inBlocks reader cuts (before ++ endToEnd way words) .reader ≡ fed reader (before ++ endToEnd way words))
   covered-again-in-blocks cuts each enough =
@@ -88,7 +89,7 @@ module _
       let all : AllBits run = within-append 1 before (endToEnd way words) clean (words-clean way words) in
       let ended = comes-to-the-end reader known reached cuts run all each enough in
       let same = cut-to-the-end reader known reached cuts run all ended in
-      (ended, ap (drop (length before + bits)) (same .0) ∙ run-after, same .1)
+      (ended, same .0, ap (drop (length before + bits)) (same .0) ∙ run-after, same .1)
 
 -- words one way, so many bits of a word and the same bits back, and words in whatever way: the answers are those of the parts, and the first and the last are
 -- covered
