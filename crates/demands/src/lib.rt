@@ -7,6 +7,8 @@
 // proofs/Demand1     a write is done or refused, and one that is refused changes no element
 // proofs/Demand2     frame numbers and addresses; words, lines and packets, read or written
 // proofs/Demand3     each code word is reported, as itself, at its 80th bit
+// proofs/Windows     what is heard in a window, exactly: forward, backward, complaints, and never both
+// proofs/Reverse     demand 3 of readers that hear both ways
 // proofs/Rehearsed   the bars, under one claim
 // proofs/Accepted    a record is clear of its refusals exactly where it is acceptable
 //

@@ -7,7 +7,7 @@ use mathlib.Core.List.{List, [], _∷_, _++_}
 use native.Mathlib.Numerals.{add-one}
 use native.Mathlib.Omega.{arith}
 use lib.Dec.{ltb, eqb}
-use lib.ListN.{take}
+use lib.ListN.{length, take}
 use borrow.Author.Tests.{le-ltb}
 use Rattle.bits.specs.Bits.{AllBits}
 use Rattle.bits.proofs.Bit.{head-within, tail-within}
@@ -51,6 +51,11 @@ unfolding fed answers
 answers-cut [] rest r = refl
 answers-cut (element ∷ first) rest r =
     ap (λ (l : List Heard). steppedOf r element .heard ∷ l) (answers-cut first rest (steppedOf r element .reader))
+
+pub one-answer-each : (elements : List ℕ) (r : Reader) → length (answers r elements) ≡ length elements
+unfolding answers
+one-answer-each [] r = refl
+one-answer-each (element ∷ elements) r = ap suc (one-answer-each elements (steppedOf r element .reader))
 
 quiet : (heard : Heard) → isAnswer heard ≡ false → heard ≡ Nothing
 quiet Nothing e = refl

@@ -1,6 +1,6 @@
 -- "A fed run that turns in the middle is covered again from the first whole word after the turn": whatever was fed before.
 -- Assumes nothing.
-use Prim.Native.Nat.{ℕ, suc, _+_, _≤_}
+use Prim.Native.Nat.{ℕ, _+_, _≤_}
 use mathlib.Core.Path.{_≡_, refl, sym, ap, ap₂, subst, _∙_}
 use mathlib.Core.Bool.{false}
 use mathlib.Core.List.{List, [], _∷_, _++_, reverse}
@@ -20,7 +20,7 @@ use Rattle.reader.specs.Steps.{steppedOf}
 use Rattle.following.specs.Reach.{fed, answers, Reached}
 use Rattle.following.specs.Cuts.{Cut, inBlocks, AllOpen}
 use Rattle.following.specs.Following.{CodeWord, endToEnd, eachAsItself, FollowsAfter, beforeItsLast}
-use Rattle.following.proofs.Cut.{fed-cut, answers-cut}
+use Rattle.following.proofs.Cut.{fed-cut, answers-cut, one-answer-each}
 use Rattle.following.proofs.CutAnywhere.{cut-to-the-end, comes-to-the-end}
 use Rattle.following.proofs.Passing.{step-keeps}
 use Rattle.following.proofs.CodeWords.{words-clean}
@@ -34,11 +34,6 @@ fed-keeps (element ∷ elements) reader =
     let once = step-keeps reader element in
     let rest = fed-keeps elements (steppedOf reader element .reader) in
     (rest .0 ∙ once .0, rest .1 ∙ once .1)
-
-answers-length : (elements : List ℕ) (reader : Reader) → length (answers reader elements) ≡ length elements
-unfolding answers
-answers-length [] reader = refl
-answers-length (element ∷ elements) reader = ap suc (answers-length elements (steppedOf reader element .reader))
 
 pub fed-reached : (elements : List ℕ) (reader : Reader) → Reached reader → Reached (fed reader elements)
 fed-reached elements reader reached =
@@ -72,7 +67,7 @@ module _
   run-after =
       let first = answers reader before in
       let later = answers (fed reader before) (endToEnd way words) in
-      let size : length first ≡ length before = answers-length before reader in
+      let size : length first ≡ length before = one-answer-each before reader in
       ap (drop (length before + bits)) (answers-cut before (endToEnd way words) reader)
       ∙ sym (drop-drop bits (length before) (first ++ later))
       ∙ ap (drop bits) (drop-at first later (length before) size)

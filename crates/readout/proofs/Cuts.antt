@@ -10,11 +10,9 @@ use native.Mathlib.Omega.{arith}
 use lib.Dec.{ltb}
 use lib.ListN.{length, take, length-append, length-take}
 use borrow.Author.Tests.{ltb-false}
-use Rattle.register.specs.declared.types.Reader.{Reader}
 use Rattle.hearing.specs.declared.types.Heard.{Heard}
-use Rattle.reader.specs.Steps.{steppedOf}
-use Rattle.following.specs.Reach.{fed, answers}
-use Rattle.following.proofs.Cut.{fed-cut, answers-cut}
+use Rattle.following.specs.Reach.{fed}
+use Rattle.following.proofs.Cut.{fed-cut, answers-cut, one-answer-each}
 use Rattle.lines.specs.Lines.{lineOf}
 use Rattle.characters.specs.Characters.{bitsIn, goesOn}
 use Rattle.characters.proofs.Meant.{in-parts, ended}
@@ -41,11 +39,6 @@ left-after s piece some = go (ltb 0 came) (goesOn (counted s piece)) refl
     go true false t = rw t
     go false true t = rw t (omega (arith, length-take (s .left) piece, ltb-false 0 came t))
     go false false t = rw t
-
-one-answer-each : (bits : List ℕ) (r : Reader) → length (answers r bits) ≡ length bits
-unfolding answers
-one-answer-each [] r = refl
-one-answer-each (bit ∷ bits) r = ap suc (one-answer-each bits (steppedOf r bit .reader))
 
 -- the lines of answers one after the other, the later with the bits of the earlier behind them
 lines-in-parts :
