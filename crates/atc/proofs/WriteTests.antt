@@ -1,13 +1,15 @@
 -- What each test of a write leads to: its answer, and the run as it leaves it.
 -- Assumes nothing.
-use mathlib.Core.Path.{_≡_, sym, _∙_}
+use mathlib.Core.Path.{_≡_, refl, sym, _∙_}
 use mathlib.Core.Bool.{true, false}
 use Prim.Native.Nat.{ℕ}
 use mathlib.Core.List.{List}
-use Rattle.refusals.specs.Table.{unknown-mode, unknown-type, outside-the-clock, no-room}
-use Rattle.refusals.specs.Answer.{Refusal, answer}
+use Rattle.refusals.specs.Table.{unknown-mode, outside-the-clock, no-room}
+use Rattle.refusals.specs.declared.types.Verdict.the-variants.{Sound, Refused as Unsound}
+use Rattle.refusals.specs.Answer.{Refusal, answer, verdictOf}
 use Rattle.refusals.proofs.Answered.{Clear, otherwise-accepted}
-use Rattle.refusals.proofs.ByNumber.{rowsBefore, clear-from}
+use Rattle.refusals.proofs.ByNumber.{rowsBefore, clear-from, clear-whole, answer-from}
+use Rattle.refusals.proofs.Verdicts.{refused-by, sound-clear}
 use Rattle.runs.specs.declared.types.Written.{Written}
 use Rattle.runs.specs.declared.types.Written.the-variants.{Refused as Unwritten}
 use Rattle.runs.specs.Run.{writtenBy, runAfter, roomRefusals}
@@ -17,40 +19,53 @@ use Rattle.record.specs.declared.types.Packed.the-variants.{Bits, Refused as Un
 use Rattle.modes.specs.Modes.{unknown, withMode}
 use Rattle.modes.specs.Calls.{writeRefusalsIn, packedIn}
 use Rattle.modes.proofs.Told.{refused-as, packed-is}
-use Rattle.packets.specs.Packet.{packetWith, unknownType}
-use Rattle.atc.specs.Calls.{packetOf, writtenRows, writtenOf, runOf}
+use Rattle.packets.specs.Packet.{packetWith}
+use Rattle.atc.specs.declared.types.Interface.{Interface}
+use Rattle.atc.specs.Calls.{payloadRefusals, packetOf, writtenRows, writtenOf, runOf}
 
 -- what a call promised of its answer, once the answer is looked at
 pub told : {A : Type 0} (given promised found : A) → given ≡ promised → given ≡ found → promised ≡ found
 told given promised found e is = sym e ∙ is
 
-module _ (mode : ℕ) (r : Record) (type second start : ℕ) (run : List ℕ) where
+module _ (mode : ℕ) (interface : Interface) (r : Record) (type second start : ℕ) (run : List ℕ) where
   abbrev pub Outcome : Written → List ℕ → Type 0
-  Outcome answered left = (answered ≡ writtenOf mode r type start run) × (left ≡ runOf mode r type second start run)
+  Outcome answered left = (answered ≡ writtenOf mode interface r type second start run) × (left ≡ runOf mode interface r type second start run)
 
   abbrev rows : List Refusal
-  rows = writtenRows mode r type start run
+  rows = writtenRows mode interface r type second start run
+
+  abbrev own-of-payload : List Refusal
+  own-of-payload = payloadRefusals interface type second
 
   pub no-mode : unknown mode ≡ true → Outcome (Unwritten 2) run
   unfolding writtenOf runOf
   no-mode past = turned-away rows start (packetOf mode r type second) run unknown-mode tt past
 
   module _ (known : unknown mode ≡ false) where
-    pub no-type : unknownType type ≡ true → Outcome (Unwritten 7) run
-    unfolding writtenOf runOf
-    no-type other = turned-away rows start (packetOf mode r type second) run unknown-type (known, tt) other
-
     -- the record's own answer begins with the mode, which is known
     past-mode : {A : Type 0} (refused : ℕ → A) (accepted : A)
         → answer refused (withMode mode (writeRefusalsIn mode r)) accepted ≡ answer refused (writeRefusalsIn mode r) accepted
     past-mode refused accepted = rw known
 
-    module _ (typed : unknownType type ≡ false) where
+    pub no-payload : (n : ℕ) → verdictOf own-of-payload ≡ Unsound n → Outcome (Unwritten n) run
+    unfolding writtenOf runOf
+    no-payload n e = (
+      rw known (refused-by Unwritten _ own-of-payload (verdictOf own-of-payload) refl n e),
+      rw known (refused-by (λ (k : ℕ). run) _ own-of-payload (verdictOf own-of-payload) refl n e),
+    )
+
+    module _ (fit : verdictOf own-of-payload ≡ Sound) where
+      -- no row before the record's own applies
+      front : Clear (rowsBefore outside-the-clock rows)
+      front = (known, sound-clear Unwritten (Unwritten 0) own-of-payload (verdictOf own-of-payload) refl fit)
+
       pub no-record : (n : ℕ) → packedIn mode r ≡ Unpackable n → Outcome (Unwritten n) run
       unfolding writtenOf runOf
       no-record n e = (
-        rw (known, typed) (refused-as mode r Unwritten _ n e ∙ past-mode Unwritten _),
-        rw (known, typed) (refused-as mode r (λ (k : ℕ). run) _ n e ∙ past-mode (λ (k : ℕ). run) _),
+        refused-as mode r Unwritten _ n e ∙ past-mode Unwritten _ ∙ sym (answer-from Unwritten _ outside-the-clock rows front),
+        refused-as mode r (λ (k : ℕ). run) _ n e
+            ∙ past-mode (λ (k : ℕ). run) _
+            ∙ sym (answer-from (λ (k : ℕ). run) _ outside-the-clock rows front),
       )
 
       module _ (info : ℕ) (e : packedIn mode r ≡ Bits info) where
@@ -64,7 +79,7 @@ module _ (mode : ℕ) (r : Record) (type second start : ℕ) (run : List ℕ) wh
         unfolding writtenOf runOf
         placed answered left told =
             let before = rowsBefore no-room rows in
-            let clear : Clear before = (known, (typed, own)) in
+            let clear : Clear before = clear-whole outside-the-clock before front own in
             let word = packetOf mode r type second in (
               told .0 ∙ sym (otherwise-accepted Unwritten (writtenBy (roomRefusals 23 start run)) before clear),
               told .1

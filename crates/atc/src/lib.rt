@@ -1,9 +1,11 @@
 // The ancillary packet (ATC): 23 words of ten bits, and the record, payload type and second byte that they carry.
 //
-// types      what a packet carries, and what a read answers
-// payload    the payload types
+// types      the interfaces, what a packet carries, and what a read answers
+// lines      the line numbers that a second byte may claim, by interface
+// payload    the payload types, and what a type and a second byte are turned away with
 // reading    from 23 words to record, type and second byte
 // writing    from record, type and second byte to 23 words in the middle of a lent run
+mod lines;
 mod payload;
 mod reading;
 mod types;
@@ -11,5 +13,6 @@ mod writing;
 
 pub use reading::read;
 pub use types::Contents;
+pub use types::Interface;
 pub use types::Packet;
 pub use writing::write;

@@ -3,9 +3,10 @@ ghost use mathlib.Core.Path.{_≡_};
 ghost use Prim.Native.Nat.{_≤_};
 ghost use lib.ListN.{length};
 ghost use Rattle.words.specs.Words.{infoIn, byteIn};
-ghost use Rattle.atc.specs.Calls.{readOf};
-use crate::payload::is_unknown_type;
+ghost use Rattle.atc.specs.Calls.{packetAs, readOf};
+use crate::payload::judge;
 use crate::types::Contents;
+use crate::types::Interface;
 use crate::types::Packet;
 use record::Unpacked;
 use refusals::Verdict;
@@ -38,29 +39,33 @@ fn byte_in(words: &[u16]) -> u8
     byte
 }
 
-pub fn read(mode: u8, words: &[u16]) -> Packet
-    ensures { λ r. ⌜ r ≡ readOf mode (now (words .entry)) ⌝ }
+// What the record's own answer comes to, with the type and the second byte beside it.
+fn packet_as(payload_type: u8, second: u8, unpacked: Unpacked) -> Packet
+    ensures { λ r. ⌜ r ≡ packetAs «payload_type» second unpacked ⌝ }
+{
+    match unpacked {
+        Unpacked::Refused(number) => Packet::Refused(number),
+        Unpacked::Holds(record) => Packet::Holds(Contents {
+            record,
+            payload_type,
+            second,
+        }),
+    }
+}
+
+pub fn read(mode: u8, interface: Interface, words: &[u16]) -> Packet
+    ensures { λ r. ⌜ r ≡ readOf mode interface (now (words .entry)) ⌝ }
 {
     let found = packets::judge(mode, words);
-    match found {
-        Verdict::Refused(number) => Packet::Refused(number),
-        Verdict::Sound => {
-            let payload_type = byte_in(&words[6..14]);
-            if is_unknown_type(payload_type) {
-                return Packet::Refused(refusals::UNKNOWN_TYPE);
-            }
-            let unpacked = modes::from_bits(mode, info_in(&words[6..22]));
-            match unpacked {
-                Unpacked::Refused(number) => Packet::Refused(number),
-                Unpacked::Holds(record) => {
-                    let second = byte_in(&words[14..22]);
-                    Packet::Holds(Contents {
-                        record,
-                        payload_type,
-                        second,
-                    })
-                }
-            }
-        }
+    if let Verdict::Refused(number) = found {
+        return Packet::Refused(number);
     }
+    let payload_type = byte_in(&words[6..14]);
+    let second = byte_in(&words[14..22]);
+    let carried = judge(interface, payload_type, second);
+    if let Verdict::Refused(number) = carried {
+        return Packet::Refused(number);
+    }
+    let unpacked = modes::from_bits(mode, info_in(&words[6..22]));
+    packet_as(payload_type, second, unpacked)
 }

@@ -1,27 +1,31 @@
 // From record, type and second byte to 23 words.
 ghost use mathlib.Core.Path.{_≡_};
 ghost use Rattle.atc.specs.Calls.{writtenOf, runOf};
-use crate::payload::is_unknown_type;
+use crate::payload::judge;
+use crate::types::Interface;
 use record::Packed;
 use record::Record;
+use refusals::Verdict;
 use runs::Written;
 
 pub fn write(
     mode: u8,
+    interface: Interface,
     r: Record,
     payload_type: u8,
     second: u8,
     start: usize,
     run: &mut [u16],
 ) -> Written
-    ensures { λ w. ⌜ (w ≡ writtenOf mode r «payload_type» start (now (run .entry)))
-        × (now (run .exit) ≡ runOf mode r «payload_type» second start (now (run .entry))) ⌝ }
+    ensures { λ w. ⌜ (w ≡ writtenOf mode interface r «payload_type» second start (now (run .entry)))
+        × (now (run .exit) ≡ runOf mode interface r «payload_type» second start (now (run .entry))) ⌝ }
 {
     if modes::is_unknown(mode) {
         return Written::Refused(refusals::UNKNOWN_MODE);
     }
-    if is_unknown_type(payload_type) {
-        return Written::Refused(refusals::UNKNOWN_TYPE);
+    let carried = judge(interface, payload_type, second);
+    if let Verdict::Refused(number) = carried {
+        return Written::Refused(number);
     }
     let packed = modes::to_bits(mode, r);
     match packed {

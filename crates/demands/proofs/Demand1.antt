@@ -15,6 +15,7 @@ use Rattle.polarity.specs.declared.types.Found.{Found}
 use Rattle.polarity.specs.Word.{wordOf}
 use Rattle.ltc.specs.Calls as ltc
 use Rattle.vitc.specs.Calls as vitc
+use Rattle.atc.specs.declared.types.Interface.{Interface}
 use Rattle.atc.specs.declared.types.Contents.{Contents}
 use Rattle.atc.specs.Calls as atc
 use Rattle.demands.specs.Carriers.{linear, interval, ancillary, DoneOrRefused, Unchanged}
@@ -28,10 +29,10 @@ pub interval-done-or-refused : DoneOrRefused interval
 unfolding vitc.writtenOf
 interval-done-or-refused mode r start run given = done-or-refused (vitc.writtenRows mode r start run)
 
-pub ancillary-done-or-refused : DoneOrRefused ancillary
+pub ancillary-done-or-refused : (interface : Interface) → DoneOrRefused (ancillary interface)
 unfolding atc.writtenOf
-ancillary-done-or-refused mode c start run byte =
-    let either = done-or-refused (atc.writtenRows mode (c .«record») (c .«payload_type») start run) in
+ancillary-done-or-refused interface mode c start run byte =
+    let either = done-or-refused (atc.writtenRows mode interface (c .«record») (c .«payload_type») (c .second) start run) in
     (⊎-elim (λ done. inl (byte, done)) inr (either .0), λ number done. either .1 number (done .1))
 
 -- "A write that is turned away changes no element lent to it." Shut out: a write that stores before it looks.
@@ -43,10 +44,10 @@ pub interval-unchanged : Unchanged interval
 unfolding vitc.writtenOf
 interval-unchanged mode r start run = unchanged Refused Done apart (vitc.writtenRows mode r start run) start (vitc.lineOf mode r) run
 
-pub ancillary-unchanged : Unchanged ancillary
+pub ancillary-unchanged : (interface : Interface) → Unchanged (ancillary interface)
 unfolding atc.writtenOf atc.runOf
-ancillary-unchanged mode c start run =
-    unchanged Refused Done apart (atc.writtenRows mode (c .«record») (c .«payload_type») start run) start
+ancillary-unchanged interface mode c start run =
+    unchanged Refused Done apart (atc.writtenRows mode interface (c .«record») (c .«payload_type») (c .second) start run) start
     (atc.packetOf mode (c .«record») (c .«payload_type») (c .second)) run
 
 -- and it is turned away where there is no room
@@ -60,8 +61,9 @@ unfolding vitc.writtenOf
 interval-room mode r start run done =
     let rows = vitc.writtenRows mode r start run in has-room 90 start (length run) (clear-at no-room rows (done-clear rows done))
 
-pub ancillary-room : (mode : ℕ) (c : Contents) (start : ℕ) (run : List ℕ) → ancillary .Writes mode c start run → start + 23 ≤ length run
+pub ancillary-room :
+    (interface : Interface) (mode : ℕ) (c : Contents) (start : ℕ) (run : List ℕ) → ancillary interface .Writes mode c start run → start + 23 ≤ length run
 unfolding atc.writtenOf
-ancillary-room mode c start run done =
-    let rows = atc.writtenRows mode (c .«record») (c .«payload_type») start run in
+ancillary-room interface mode c start run done =
+    let rows = atc.writtenRows mode interface (c .«record») (c .«payload_type») (c .second) start run in
     has-room 23 start (length run) (clear-at no-room rows (done-clear rows (done .1)))

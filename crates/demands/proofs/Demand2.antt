@@ -10,8 +10,10 @@ use mathlib.Core.List.{List}
 use mathlib.Core.Logic.{_↔_, _⊎_}
 use native.Mathlib.Omega.{arith}
 use lib.ListN.{length, take, drop}
-use Rattle.refusals.specs.Table.{wrong-check}
+use Rattle.refusals.specs.Table.{wrong-check, impossible-line}
+use Rattle.refusals.proofs.Answered.{Clear}
 use Rattle.bits.specs.Bits.{someAbove}
+use Rattle.runs.specs.declared.types.Written.the-variants.{Refused as Unwritten}
 use Rattle.runs.specs.Run.{placed}
 use Rattle.runs.proofs.Parts.{read-back}
 use Rattle.rates.specs.declared.types.Flag.{Flag}
@@ -39,13 +41,20 @@ use Rattle.trips.proofs.Five.{five-exactly}
 use Rattle.trips.proofs.Words as ltc
 use Rattle.vitc.specs.Calls.{lineOf}
 use Rattle.trips.proofs.Lines as vitc
-use Rattle.atc.specs.Calls.{packetOf}
+use Rattle.packets.specs.Packet.{typeIn, secondIn}
+use Rattle.packets.specs.Calls.{formRefusals}
+use Rattle.atc.specs.declared.types.Interface.{Interface}
+use Rattle.atc.specs.declared.types.Packet.the-variants.{Refused as Turned}
+use Rattle.atc.specs.Calls.{packetOf, writtenOf, readOf as packetRead}
 use Rattle.trips.proofs.Packets as atc
+use Rattle.trips.proofs.Nineteen.{read-refused-by-19, written-refused-by-19}
 use Rattle.demands.specs.Modes.{CountingMode}
 use Rattle.demands.specs.Records.{Acceptable}
+use Rattle.demands.specs.Table4.{ClaimsNoLine}
 use Rattle.demands.specs.Carriers.{Carrier, linear, withBit, bitFor, FoundAsMade, interval, ancillary, only, Accepting, Reading, Matches}
 use Rattle.demands.proofs.Demand1.{linear-room, interval-room, ancillary-room}
 use Rattle.demands.proofs.Accepted.{known, allowed, acceptable-exactly}
+use Rattle.demands.proofs.LineNumbers.{impossible-exactly, payload-exactly}
 
 -- "Frame numbers of a day and addresses match one to one, drop-frame or not": of `modes::number_of` and `modes::address_of`, in every mode.
 pub numbers-and-addresses :
@@ -159,22 +168,26 @@ interval-laws =
       reads = λ mode r ok. vitc.made-reads mode r (lineOf mode r) .0 (acceptable-exactly mode r .1 ok, refl);
     }
 
-ancillary-laws : Laws ancillary
-ancillary-laws =
+ancillary-laws : (interface : Interface) → Laws (ancillary interface)
+ancillary-laws interface =
     record {
-      roomy = ancillary-room;
-      done-reads = λ mode c start run room done. atc.done-reads mode (c .«record») (c .«payload_type») (c .second) start run (done .0) (done .1);
+      roomy = ancillary-room interface;
+      done-reads =
+          λ mode c start run room done. atc.done-reads mode interface (c .«record») (c .«payload_type») (c .second) start run (done .0) (done .1);
       read-writes =
-          λ mode c start run words room reads. (let written = atc.read-writes mode (c .«record») (c .«payload_type») (c .second) start run words reads room in
-          ((atc.read-sized mode words c reads .1, written .0), written .1));
-      sized = λ mode c words reads. atc.read-sized mode words c reads .0;
+          λ mode c start run words room reads.
+          (let written = atc.read-writes mode interface (c .«record») (c .«payload_type») (c .second) start run words reads room in
+          ((atc.read-sized mode interface words c reads .1, written .0), written .1));
+      sized = λ mode c words reads. atc.read-sized mode interface words c reads .0;
       taken =
-          λ mode c words reads. (let again = atc.written-of-read mode words (c .«record») (c .«payload_type») (c .second) reads in
-          (acceptable-exactly mode (c .«record») .0 (again .0 .0), again .0 .1, atc.read-sized mode words c reads .1));
+          λ mode c words reads.
+          (let again = atc.written-of-read mode interface words (c .«record») (c .«payload_type») (c .second) reads in
+          let fits = payload-exactly interface (c .«payload_type») (c .second) .0 (again .0 .1) in
+          (acceptable-exactly mode (c .«record») .0 (again .0 .0), fits .0, atc.read-sized mode interface words c reads .1, fits .1));
       elementsOf = λ mode c. packetOf mode (c .«record») (c .«payload_type») (c .second);
       reads =
-          λ mode c ok. atc.read-of-written mode (c .«record») (c .«payload_type») (c .second)
-          (acceptable-exactly mode (c .«record») .1 (ok .0), ok .1) (ok .2);
+          λ mode c ok. atc.read-of-written mode interface (c .«record») (c .«payload_type») (c .second)
+          (acceptable-exactly mode (c .«record») .1 (ok .0), payload-exactly interface (c .«payload_type») (c .second) .1 (ok .1, ok .3)) (ok .2);
     }
 
 -- "Words on the linear track, vertical interval lines and ancillary packets .. read or written". A write is done exactly where there is
@@ -190,8 +203,8 @@ linear-accepts make mode r start run =
 pub interval-accepts : Accepting interval
 interval-accepts = accepting interval interval-laws
 
-pub ancillary-accepts : Accepting ancillary
-ancillary-accepts = accepting ancillary ancillary-laws
+pub ancillary-accepts : (interface : Interface) → Accepting (ancillary interface)
+ancillary-accepts interface = accepting (ancillary interface) (ancillary-laws interface)
 
 -- Document 02, A1: "refused by 5 only if its zeros are odd and its polarity bit is 1": of 80 bits that end in the sync word, in a mode that is known, exactly
 -- then. Shut out: the old rule, by which odd zeros alone are refused, and one that never gives 5.
@@ -236,8 +249,8 @@ linear-reads found = reading (only (FoundAsMade found) (linear found)) (linear-l
 pub interval-reads : Reading interval
 interval-reads = reading interval interval-laws
 
-pub ancillary-reads : Reading ancillary
-ancillary-reads = reading ancillary ancillary-laws
+pub ancillary-reads : (interface : Interface) → Reading (ancillary interface)
+ancillary-reads interface = reading (ancillary interface) (ancillary-laws interface)
 
 -- And what is read and what is written match one to one. On the linear track: "a word read and written again by what was found is the same". Shut out, with the
 -- above: a writer that writes nothing, or touches another element.
@@ -247,5 +260,25 @@ linear-matches found = matches (only (FoundAsMade found) (linear found)) (linear
 pub interval-matches : Matches interval
 interval-matches = matches interval interval-laws
 
-pub ancillary-matches : Matches ancillary
-ancillary-matches = matches ancillary ancillary-laws
+pub ancillary-matches : (interface : Interface) → Matches (ancillary interface)
+ancillary-matches interface = matches (ancillary interface) (ancillary-laws interface)
+
+-- Document 02, A9: "For types 1 and 2 on 525 or 625 line interfaces, refuse by a new number 19 any second byte whose low six bits have no entry in Table 4": of words
+-- that have the form of a packet exactly then, whatever record they carry ("It is checked after 7"), and so of a write in a mode that is known. Shut out: type 0 or
+-- high definition checked; 8 given where 19 applies too; another table.
+pub ancillary-refused-by-19 :
+    (interface : Interface) (mode : ℕ) (words : List ℕ)
+    → (packetRead mode interface words ≡ Turned impossible-line)
+    ↔ (Clear (formRefusals mode words) × ClaimsNoLine interface (typeIn words) (secondIn words))
+ancillary-refused-by-19 interface mode words =
+    let exactly = read-refused-by-19 mode interface words in
+    let claimed = impossible-exactly interface (typeIn words) (secondIn words) in
+    (λ e. (let both = exactly .0 e in (both .0, claimed .0 (both .1))), λ both. exactly .1 (both .0, claimed .1 (both .1)))
+
+pub ancillary-written-refused-by-19 :
+    (interface : Interface) (mode : ℕ) (r : Record) (type second start : ℕ) (run : List ℕ)
+    → (writtenOf mode interface r type second start run ≡ Unwritten impossible-line) ↔ ((unknown mode ≡ false) × ClaimsNoLine interface type second)
+ancillary-written-refused-by-19 interface mode r type second start run =
+    let exactly = written-refused-by-19 mode interface r type second start run in
+    let claimed = impossible-exactly interface type second in
+    (λ e. (let both = exactly .0 e in (both .0, claimed .0 (both .1))), λ both. exactly .1 (both .0, claimed .1 (both .1)))

@@ -5,6 +5,7 @@
 -- Reverse   demand 3 of readers that hear both ways
 -- Rehearsed the bars that document 01 marks P, under one claim
 -- Accepted  a record is clear of its refusals exactly where it is acceptable
+-- LineNumbers the line numbers that a packet may not claim are those that the printed table has no entry for
 pub mod Demand1
 pub mod Demand2
 pub mod Demand3
@@ -12,3 +13,4 @@ pub mod Windows
 pub mod Reverse
 pub mod Rehearsed
 pub mod Accepted
+pub mod LineNumbers

@@ -22,6 +22,7 @@ use Rattle.modes.specs.Calls.{numberIn, addressIn, fieldsIn, spanIn}
 use Rattle.polarity.specs.declared.types.Found.the-variants.{Corrected}
 use Rattle.ltc.specs.Calls as ltc
 use Rattle.vitc.specs.Calls as vitc
+use Rattle.atc.specs.declared.types.Interface.the-variants.{HighDefinition}
 use Rattle.atc.specs.Calls as atc
 
 -- what a call tells, whichever it is: a number, an address, a signed count of frames, the elements that a write leaves, or a refusal
@@ -76,7 +77,8 @@ theRecord =
       groups = record { group1 = 0; group2 = 0; group3 = 0; group4 = 0; group5 = 0; group6 = 0; group7 = 0; group8 = 0 };
     }
 
--- what a write of it leaves in a lent run of zeros: as LTC, corrected, on VITC, as ATC type 1, second byte 0
+-- what a write of it leaves in a lent run of zeros: as LTC, corrected, on VITC, as ATC type 1, second byte 0 (on a high definition interface: by A9 the others
+-- refuse a second byte that claims line 0)
 abbrev asLtc : List ℕ
 asLtc = ltc.runOf 2 theRecord Corrected 0 (replicate 80 0)
 
@@ -84,7 +86,7 @@ abbrev onVitc : List ℕ
 onVitc = vitc.runOf 2 theRecord 0 (replicate 90 0)
 
 abbrev asAtc : List ℕ
-asAtc = atc.runOf 2 theRecord 1 0 0 (replicate 23 0)
+asAtc = atc.runOf 2 HighDefinition theRecord 1 0 0 (replicate 23 0)
 
 -- the places of the ones, where the first bit stands at the place given
 unfoldable pub onesAmong : ℕ → List ℕ → List ℕ

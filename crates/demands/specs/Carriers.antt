@@ -21,10 +21,12 @@ use Rattle.polarity.specs.declared.types.Word.the-variants.{Holds as Read}
 use Rattle.polarity.specs.Word.{wordWith, oddZeros}
 use Rattle.ltc.specs.Calls as ltc
 use Rattle.vitc.specs.Calls as vitc
+use Rattle.atc.specs.declared.types.Interface.{Interface}
 use Rattle.atc.specs.declared.types.Contents.{Contents}
 use Rattle.atc.specs.Calls as atc
 use Rattle.atc.specs.declared.types.Packet.the-variants.{Holds as Carries}
 use Rattle.demands.specs.Records.{Acceptable}
+use Rattle.demands.specs.Table4.{ClaimsNoLine}
 
 -- What is needed of the bounds that the types of a carrier's calls set; what it takes, by mode; and what its calls promise: that a write of a content from a
 -- start in a lent run is done; that it is refused with a number; the run as the write leaves it; and that a read of some elements gives a content.
@@ -78,17 +80,20 @@ interval =
       Reads = λ mode line r. vitc.readOf mode line ≡ Holds r;
     }
 
--- 23 words of an ancillary packet: `atc::write` and `atc::read`. The payload type is up to 2, and the second byte is a byte
-abbrev pub ancillary : Carrier Contents
-ancillary =
+-- 23 words of an ancillary packet on an interface: `atc::write` and `atc::read`. The payload type is up to 2, the second byte is a byte, and it claims no line
+-- that can't be
+abbrev pub ancillary : Interface → Carrier Contents
+ancillary interface =
     record {
       size = 23;
       Given = λ c. c .second < 256;
-      Accepts = λ mode c. Acceptable mode (c .«record») × (c .«payload_type» ≤ 2) × (c .second < 256);
-      Writes = λ mode c start run. (c .second < 256) × (atc.writtenOf mode (c .«record») (c .«payload_type») start run ≡ Done);
-      Refuses = λ mode c start run number. atc.writtenOf mode (c .«record») (c .«payload_type») start run ≡ Refused number;
-      leaves = λ mode c. atc.runOf mode (c .«record») (c .«payload_type») (c .second);
-      Reads = λ mode words c. atc.readOf mode words ≡ Carries c;
+      Accepts =
+          λ mode c. Acceptable mode (c .«record») × (c .«payload_type» ≤ 2) × (c .second < 256)
+          × (ClaimsNoLine interface (c .«payload_type») (c .second) → ⊥);
+      Writes = λ mode c start run. (c .second < 256) × (atc.writtenOf mode interface (c .«record») (c .«payload_type») (c .second) start run ≡ Done);
+      Refuses = λ mode c start run number. atc.writtenOf mode interface (c .«record») (c .«payload_type») (c .second) start run ≡ Refused number;
+      leaves = λ mode c. atc.runOf mode interface (c .«record») (c .«payload_type») (c .second);
+      Reads = λ mode words c. atc.readOf mode interface words ≡ Carries c;
     }
 
 -- the same carrier, which accepts and writes some contents only; what is read stays, so that its laws say that nothing else is read

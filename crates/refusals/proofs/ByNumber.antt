@@ -58,6 +58,20 @@ clear-whole n (row ∷ rows) before from = go (eqb (row .number) n) before from 
     go true b f rest = f
     go false b f rest = (b .0, rest (b .1) f)
 
+-- where the rows before a number are clear, the others answer
+pub answer-from :
+    {A : Type 0} (refused : ℕ → A) (accepted : A) (n : ℕ) (rows : List Refusal) → Clear (rowsBefore n rows)
+    → answer refused rows accepted ≡ answer refused (rowsFrom n rows) accepted
+answer-from refused accepted n [] before = refl
+answer-from refused accepted n (row ∷ rows) before = go (eqb (row .number) n) before (answer-from refused accepted n rows)
+  where
+    go :
+        (t : Bool) → Clear (cond t [] (row ∷ rowsBefore n rows))
+        → (Clear (rowsBefore n rows) → answer refused rows accepted ≡ answer refused (rowsFrom n rows) accepted)
+        → answer refused (row ∷ rows) accepted ≡ answer refused (cond t (row ∷ rows) (rowsFrom n rows)) accepted
+    go true b rest = refl
+    go false b rest = rw (b .0) (rest (b .1))
+
 -- where the rows before a number are clear and the number applies, it is given
 pub given-at :
     {A : Type 0} (refused : ℕ → A) (accepted : A) (n : ℕ) (rows : List Refusal) → Clear (rowsBefore n rows) → testOf n rows ≡ true

@@ -1,4 +1,4 @@
--- The numbers for what is turned away: document 01's table, in its order and words.
+-- The numbers for what is turned away: document 01's table, in its order and words, and after it those that requests of document 02 add.
 -- Assumes nothing.
 use Prim.Native.Nat.{ℕ}
 use mathlib.Core.List.{List, [], _∷_}
@@ -59,9 +59,14 @@ state-not-reached = 13
 abbrev pub number-past-the-day : ℕ
 number-past-the-day = 14
 
--- "The lowest that applies is given, except that 13 comes straight after 2": the numbers in the order in which they are given
+-- A9: types 1 and 2 on 525 or 625 line interfaces, second byte whose low six bits have no entry in Table 4 of source document 000
+abbrev pub impossible-line : ℕ
+impossible-line = 19
+
+-- "The lowest that applies is given, except that 13 comes straight after 2", and 19 (A9: "It is checked after 7") straight after 7: the numbers in the order
+-- in which they are given
 abbrev pub theOrder : List ℕ
 theOrder =
     wrong-length ∷ unknown-mode ∷ state-not-reached ∷ element-too-high ∷ wrong-sync ∷ wrong-check ∷ low-bits-set ∷ unknown-type
-    ∷ outside-the-clock ∷ skipped-address ∷ unused-bit-set ∷ mark-set ∷ no-room ∷ number-past-the-day
+    ∷ impossible-line ∷ outside-the-clock ∷ skipped-address ∷ unused-bit-set ∷ mark-set ∷ no-room ∷ number-past-the-day
     ∷ []

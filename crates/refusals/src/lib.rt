@@ -1,4 +1,4 @@
-// The numbers for what is turned away: document 01's table, in its order and words.
+// The numbers for what is turned away: document 01's table, in its order and words, and after it those that requests of document 02 add.
 //
 // types      what a judge answers
 mod types;
@@ -33,3 +33,5 @@ pub const NO_ROOM: u8 = 12;
 pub const STATE_NOT_REACHED: u8 = 13;
 // Frame number not below the day's count.
 pub const NUMBER_PAST_THE_DAY: u8 = 14;
+// A9: types 1 and 2 on 525 or 625 line interfaces, second byte whose low six bits have no entry in Table 4 of source document 000.
+pub const IMPOSSIBLE_LINE: u8 = 19;

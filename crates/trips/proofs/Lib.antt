@@ -23,5 +23,7 @@ pub mod Lines
 -- Packets:
 -- WholePacket the 23 words there and back
 -- Packets    accepted packets and what they hold match one to one
+-- Nineteen   19 is given exactly where a line number is claimed that can't be, and no number before 19 applies
 pub mod WholePacket
 pub mod Packets
+pub mod Nineteen

@@ -9,10 +9,11 @@ use mathlib.Core.Logic.{_↔_}
 use native.Mathlib.Nat.{lt-of-lt-of-le, pow-le-pow-right}
 use native.Mathlib.Omega.{arith}
 use lib.ListN.{length, take, drop, length-take}
-use borrow.Author.Tests.{ltb-false, le-ltb}
+use borrow.Author.Tests.{ltb-false}
 use Rattle.refusals.specs.Table.{unknown-mode, unknown-type, outside-the-clock, no-room}
+use Rattle.refusals.specs.Answer.{Refusal}
 use Rattle.refusals.proofs.Answered.{Clear, otherwise-accepted, accepted-as}
-use Rattle.refusals.proofs.ByNumber.{rowsFrom, clear-at, clear-from, clear-before, clear-whole}
+use Rattle.refusals.proofs.ByNumber.{rowsFrom, rowsBefore, clear-at, clear-from, clear-before, clear-whole}
 use Rattle.runs.specs.declared.types.Written.the-variants.{Done}
 use Rattle.runs.specs.Run.{placed, noRoom}
 use Rattle.runs.proofs.Written.{done-clear, clear-done, stored, stored-reads, has-room, room-for}
@@ -26,23 +27,25 @@ use Rattle.modes.proofs.Told.{packed-is}
 use Rattle.trips.proofs.ByMode.{one-to-one}
 use Rattle.words.specs.Words.{bitIn, infoIn}
 use Rattle.words.proofs.Lists.{gathered-below}
-use Rattle.packets.specs.Packet.{dataIn, typeIn, secondIn, packetWith, unknownType}
+use Rattle.packets.specs.Packet.{dataIn, typeIn, secondIn, packetWith}
 use Rattle.packets.specs.Calls.{formRefusals}
 use Rattle.packets.proofs.Pieces.{length-packet}
+use Rattle.atc.specs.declared.types.Interface.{Interface}
 use Rattle.atc.specs.declared.types.Contents.{Contents}
 use Rattle.atc.specs.declared.types.Packet.{Packet}
 use Rattle.atc.specs.declared.types.Packet.the-variants.{Holds, Refused as Unread}
-use Rattle.atc.specs.Calls.{readRefusals, contentsWith, readOf, packetOf, writtenRows, writtenOf, runOf}
+use Rattle.atc.specs.Calls.{payloadRefusals, readRefusals, contentsWith, readOf, packetOf, writtenRows, writtenOf, runOf}
 use Rattle.trips.proofs.WholePacket.{form-clear, info-again, type-again, second-again, packet-again, info-below}
-use Rattle.atc.proofs.Answers.{size, past-the-type}
+use Rattle.atc.proofs.Answers.{size, past-the-payload}
 
--- what a packet can hold: a record that its own list clears, and a type up to 2
-abbrev pub Acceptable : ℕ → Record → ℕ → Type 0
-Acceptable mode r type = Clear (withMode mode (writeRefusalsIn mode r)) × (type ≤ 2)
+-- what a packet can hold on an interface: a record that its own list clears, and a type and a second byte that theirs does
+abbrev pub Acceptable : ℕ → Interface → Record → ℕ → ℕ → Type 0
+Acceptable mode interface r type second = Clear (withMode mode (writeRefusalsIn mode r)) × Clear (payloadRefusals interface type second)
 
-module _ (mode : ℕ) (r : Record) (type second : ℕ) where
+module _ (mode : ℕ) (interface : Interface) (r : Record) (type second : ℕ) where
   -- what was written reads as record, type and second byte
-  pub read-of-written : Acceptable mode r type → second < 256 → readOf mode (packetOf mode r type second) ≡ Holds (contentsWith r type second)
+  pub read-of-written :
+      Acceptable mode interface r type second → second < 256 → readOf mode interface (packetOf mode r type second) ≡ Holds (contentsWith r type second)
   unfolding packedIn
   read-of-written ok low =
       let info = informationIn mode r in
@@ -51,32 +54,38 @@ module _ (mode : ℕ) (r : Record) (type second : ℕ) where
       let small : info < 2 ^ 64 = information (rateAt mode) r (clear-from outside-the-clock rows (ok .0)) in
       let packed : packedIn mode r ≡ Bits info = otherwise-accepted Unpackable (Bits info) rows (ok .0) in
       let held : unpackedIn mode info ≡ Held r = one-to-one mode info r small .0 packed in
-      let typed : typeIn (packetWith info type second) ≡ type = type-again info type second (omega (arith, ok .1)) in
-      past-the-type mode (packetWith info type second) (form-clear info type second mode known) (rw typed (le-ltb 2 type (ok .1)))
-      ∙ rw (typed, second-again info type second low, info-again info type second small, held)
+      let words = packetWith info type second in
+      let before = rowsBefore outside-the-clock (readRefusals mode interface words) in
+      let few : type ≤ 2 = ltb-false 2 type (clear-at unknown-type (payloadRefusals interface type second) (ok .1)) in
+      let typed : typeIn words ≡ type = type-again info type second (omega arith) in
+      let next : secondIn words ≡ second = second-again info type second low in
+      past-the-payload mode interface words (clear-whole unknown-type before (form-clear info type second mode known) (rw (typed, next) (ok .1)))
+      ∙ rw (typed, next, info-again info type second small, held)
 
 contentsIn : Contents → Packet → Contents
 contentsIn other (Holds contents) = contents
 contentsIn other (Unread n) = other
 
 -- what a packet that is clear of refusals holds can be written, and this is its packet
-module _ (mode : ℕ) (words : List ℕ) (clear : Clear (readRefusals mode words)) where
+module _ (mode : ℕ) (interface : Interface) (words : List ℕ) (clear : Clear (readRefusals mode interface words)) where
   abbrev info : ℕ
   info = infoIn (dataIn words)
 
   form : Clear (formRefusals mode words)
-  form = clear-before unknown-type (readRefusals mode words) clear
+  form = clear-before unknown-type (readRefusals mode interface words) clear
 
-  read-again : Acceptable mode (recordIn mode info) (typeIn words) × (packetOf mode (recordIn mode info) (typeIn words) (secondIn words) ≡ words)
+  read-again :
+      Acceptable mode interface (recordIn mode info) (typeIn words) (secondIn words)
+      × (packetOf mode (recordIn mode info) (typeIn words) (secondIn words) ≡ words)
   unfolding unpackedIn
   read-again =
       let r = recordIn mode info in
-      let rows = readRefusals mode words in
+      let rows = readRefusals mode interface words in
       let known : unknown mode ≡ false = clear-at unknown-mode rows clear in
       let own : Clear (bitsRefusalsIn mode info) = clear-from outside-the-clock rows clear in
       let held : unpackedIn mode info ≡ Held r = otherwise-accepted Unheld (Held r) (withMode mode (bitsRefusalsIn mode info)) (known, own) in
       let packed = packed-is mode r info (one-to-one mode info r (info-below mode words form) .1 held) in (
-        (packed .0, ltb-false 2 (typeIn words) (clear-at unknown-type rows clear)),
+        (packed .0, clear-before outside-the-clock (rowsFrom unknown-type rows) (clear-from unknown-type rows clear)),
         ap (λ (n : ℕ). packetWith n (typeIn words) (secondIn words)) (packed .1) ∙ packet-again mode words form,
       )
 
@@ -85,84 +94,89 @@ abbrev carriedIn : ℕ → List ℕ → Contents
 carriedIn mode words = contentsWith (recordIn mode (infoIn (dataIn words))) (typeIn words) (secondIn words)
 
 -- a packet that was read is clear of refusals
-read-clear : (mode : ℕ) (words : List ℕ) (contents : Contents) → readOf mode words ≡ Holds contents → Clear (readRefusals mode words) × (carriedIn mode words ≡ contents)
+read-clear :
+    (mode : ℕ) (interface : Interface) (words : List ℕ) (contents : Contents) → readOf mode interface words ≡ Holds contents
+    → Clear (readRefusals mode interface words) × (carriedIn mode words ≡ contents)
 unfolding readOf contentsIn
-read-clear mode words contents e =
-    let taken = accepted-as Unread (Holds (carriedIn mode words)) (readRefusals mode words) (Holds contents) apart e in
+read-clear mode interface words contents e =
+    let taken = accepted-as Unread (Holds (carriedIn mode words)) (readRefusals mode interface words) (Holds contents) apart e in
     (taken .0, ap (contentsIn contents) (taken .1))
   where
     apart : (k : ℕ) → Unread k ≡ Holds contents → ⊥
     apart k same = let z : _≡_ {A = ℕ} 0 1 = cc in omega arith
 
 -- it had 23 words, and its second byte is a byte
-pub read-sized : (mode : ℕ) (words : List ℕ) (contents : Contents) → readOf mode words ≡ Holds contents → (length words ≡ 23) × (contents .second < 256)
-read-sized mode words contents e =
-    let taken = read-clear mode words contents e in
+pub read-sized :
+    (mode : ℕ) (interface : Interface) (words : List ℕ) (contents : Contents) → readOf mode interface words ≡ Holds contents
+    → (length words ≡ 23) × (contents .second < 256)
+read-sized mode interface words contents e =
+    let taken = read-clear mode interface words contents e in
     let carrying = take 8 (drop 14 words) in
     let few : length carrying ≤ 8 = rw length-take (omega arith) in
     let byte : secondIn words < 256 =
     lt-of-lt-of-le (gathered-below bitIn 2 (λ word. omega arith) carrying) (pow-le-pow-right (omega arith) few) in
-    (size mode words (form mode words (taken .0)), subst (λ (c : Contents). c .second < 256) (taken .1) byte)
+    (size mode words (form mode interface words (taken .0)), subst (λ (c : Contents). c .second < 256) (taken .1) byte)
 
 -- and what was read, written again, is the same words
 pub written-of-read :
-    (mode : ℕ) (words : List ℕ) (r : Record) (type second : ℕ) → readOf mode words ≡ Holds (contentsWith r type second)
-    → Acceptable mode r type × (packetOf mode r type second ≡ words)
-written-of-read mode words r type second e =
-    let taken = read-clear mode words (contentsWith r type second) e in
+    (mode : ℕ) (interface : Interface) (words : List ℕ) (r : Record) (type second : ℕ)
+    → readOf mode interface words ≡ Holds (contentsWith r type second)
+    → Acceptable mode interface r type second × (packetOf mode r type second ≡ words)
+written-of-read mode interface words r type second e =
+    let taken = read-clear mode interface words (contentsWith r type second) e in
     subst
-    (λ (c : Contents). Acceptable mode (c .«record») (c .«payload_type») × (packetOf mode (c .«record») (c .«payload_type») (c .second) ≡ words))
+    (λ (c : Contents). Acceptable mode interface (c .«record») (c .«payload_type») (c .second)
+    × (packetOf mode (c .«record») (c .«payload_type») (c .second) ≡ words))
     (taken .1)
-    (read-again mode words (taken .0))
+    (read-again mode interface words (taken .0))
 
 -- the two together: accepted packets and acceptable contents match one to one
 pub one-to-one-packets :
-    (mode : ℕ) (words : List ℕ) (r : Record) (type second : ℕ) → second < 256
-    → (Acceptable mode r type × (packetOf mode r type second ≡ words)) ↔ readOf mode words ≡ Holds (contentsWith r type second)
-one-to-one-packets mode words r type second low = (
-  λ (ok : Acceptable mode r type × (packetOf mode r type second ≡ words)). rw (ok .1) at (read-of-written mode r type second (ok .0) low),
-  written-of-read mode words r type second,
+    (mode : ℕ) (interface : Interface) (words : List ℕ) (r : Record) (type second : ℕ) → second < 256
+    → (Acceptable mode interface r type second × (packetOf mode r type second ≡ words)) ↔ readOf mode interface words ≡ Holds (contentsWith r type second)
+one-to-one-packets mode interface words r type second low = (
+  λ (ok : Acceptable mode interface r type second × (packetOf mode r type second ≡ words)). rw (ok .1) at
+      (read-of-written mode interface r type second (ok .0) low),
+  written-of-read mode interface words r type second,
 )
 
 -- a write is clear of refusals exactly where its contents are acceptable and there is room
-module _ (mode : ℕ) (r : Record) (type start : ℕ) (run : List ℕ) where
-  rows-apart : Clear (writtenRows mode r type start run) → Acceptable mode r type × (start + 23 ≤ length run)
+module _ (mode : ℕ) (interface : Interface) (r : Record) (type second start : ℕ) (run : List ℕ) where
+  abbrev rows : List Refusal
+  rows = writtenRows mode interface r type second start run
+
+  rows-apart : Clear rows → Acceptable mode interface r type second × (start + 23 ≤ length run)
   rows-apart clear =
-      let rows = writtenRows mode r type start run in
       let known : unknown mode ≡ false = clear-at unknown-mode rows clear in
       let own : Clear (writeRefusalsIn mode r) = clear-before no-room (rowsFrom outside-the-clock rows) (clear-from outside-the-clock rows clear) in (
-        ((known, own), ltb-false 2 type (clear-at unknown-type rows clear)),
+        ((known, own), clear-before outside-the-clock (rowsFrom unknown-type rows) (clear-from unknown-type rows clear)),
         has-room 23 start (length run) (clear-at no-room rows clear),
       )
 
-  rows-together : Acceptable mode r type → start + 23 ≤ length run → Clear (writtenRows mode r type start run)
+  rows-together : Acceptable mode interface r type second → start + 23 ≤ length run → Clear rows
   rows-together ok room =
       let own-rows = withMode mode (writeRefusalsIn mode r) in
       let known : unknown mode ≡ false = clear-at unknown-mode own-rows (ok .0) in
-      let typed : unknownType type ≡ false = le-ltb 2 type (ok .1) in
       let own : Clear (writeRefusalsIn mode r) = clear-from outside-the-clock own-rows (ok .0) in
       let roomy : noRoom 23 start (length run) ≡ false = room-for 23 start (length run) room in
-      clear-whole no-room (writtenRows mode r type start run) (known, (typed, own)) (roomy, tt)
+      clear-whole no-room rows (clear-whole outside-the-clock (rowsBefore no-room rows) (known, ok .1) own) (roomy, tt)
 
--- "the lent bits then read as the record": said of a write that is done, and of a packet that was read and has room
-module _ (mode : ℕ) (r : Record) (type second start : ℕ) (run : List ℕ) where
+  -- "the lent bits then read as the record": said of a write that is done, and of a packet that was read and has room
   pub done-reads :
-      second < 256 → writtenOf mode r type start run ≡ Done
-      → readOf mode (take 23 (drop start (runOf mode r type second start run))) ≡ Holds (contentsWith r type second)
+      second < 256 → writtenOf mode interface r type second start run ≡ Done
+      → readOf mode interface (take 23 (drop start (runOf mode interface r type second start run))) ≡ Holds (contentsWith r type second)
   unfolding writtenOf runOf
   done-reads low e =
-      let rows = writtenRows mode r type start run in
       let clear = done-clear rows e in
-      let ok = rows-apart mode r type start run clear in
+      let ok = rows-apart clear in
       let long = length-packet (informationIn mode r) type second in
-      rw (stored-reads rows start (packetOf mode r type second) run 23 long clear (ok .1)) (read-of-written mode r type second (ok .0) low)
+      rw (stored-reads rows start (packetOf mode r type second) run 23 long clear (ok .1)) (read-of-written mode interface r type second (ok .0) low)
 
   pub read-writes :
-      (words : List ℕ) → readOf mode words ≡ Holds (contentsWith r type second) → start + 23 ≤ length run
-      → (writtenOf mode r type start run ≡ Done) × (runOf mode r type second start run ≡ placed start words run)
+      (words : List ℕ) → readOf mode interface words ≡ Holds (contentsWith r type second) → start + 23 ≤ length run
+      → (writtenOf mode interface r type second start run ≡ Done) × (runOf mode interface r type second start run ≡ placed start words run)
   unfolding writtenOf runOf
   read-writes words e room =
-      let rows = writtenRows mode r type start run in
-      let ok = written-of-read mode words r type second e in
-      let clear = rows-together mode r type start run (ok .0) room in
+      let ok = written-of-read mode interface words r type second e in
+      let clear = rows-together (ok .0) room in
       (clear-done rows clear, stored rows start (packetOf mode r type second) run clear ∙ rw (ok .1))

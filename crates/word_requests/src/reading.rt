@@ -1,7 +1,9 @@
 // Reads of linear words, vertical interval lines and packets.
 ghost use Prim.Native.Nat.{_≤_};
 ghost use lib.ListN.{length};
+use crate::faces::face_told;
 use crate::types::Carrier;
+use crate::types::Face;
 use answers::put_byte;
 use answers::put_read;
 use answers::put_record;
@@ -74,12 +76,16 @@ pub fn answer_words_read(line: &[u8], cursor: usize, out: &mut [u8]) -> usize
     ensures { λ r. ⌜ r ≤ length (now (out .entry)) ⌝ }
 {
     let mode = number_at(line, cursor, b'b');
+    let face = number_at(line, mode.next, b'b');
     // A line of 2,000 characters has fewer words than this.
     let mut run = [0u16; 500];
-    let taken = words_at(line, mode.next, &mut run);
+    let taken = words_at(line, face.next, &mut run);
     let length = taken.length;
+    let Face::Named(interface) = face_told(face.value) else {
+        return 0;
+    };
     if is_end(line, taken.next) {
-        return put_packet(out, atc::read(byte(mode.value), &run[0..length]));
+        return put_packet(out, atc::read(byte(mode.value), interface, &run[0..length]));
     }
     0
 }

@@ -1,7 +1,9 @@
 // Writes of linear words, vertical interval lines and packets.
 ghost use Prim.Native.Nat.{_≤_};
 ghost use lib.ListN.{length};
+use crate::faces::face_told;
 use crate::types::Carrier;
+use crate::types::Face;
 use answers::put_bits;
 use answers::put_refused;
 use answers::put_text;
@@ -10,6 +12,7 @@ use polarity::Found;
 use requests::MOST_NUMBERS;
 use requests::Numbers;
 use requests::byte;
+use requests::number_at;
 use requests::record_in;
 use requests::take_numbers;
 use runs::Written;
@@ -58,17 +61,22 @@ fn put_bits_written(carrier: Carrier, n: &Numbers, run: &mut [u8], out: &mut [u8
     put_bits(out, next, run)
 }
 
-fn put_words_written(n: &Numbers, run: &mut [u16], out: &mut [u8]) -> usize
+fn put_words_written(mode: u8, n: &Numbers, run: &mut [u16], out: &mut [u8]) -> usize
     ensures { λ r. ⌜ r ≤ length (now (out .entry)) ⌝ }
 {
+    let Face::Named(interface) = face_told(n[0]) else {
+        return 0;
+    };
     let start = n[1] as usize;
     let record = record_in(n);
-    let written = atc::write(byte(n[0]), record, byte(n[21]), byte(n[22]), start, run);
+    let payload_type = byte(n[21]);
+    let second = byte(n[22]);
+    let written = atc::write(mode, interface, record, payload_type, second, start, run);
     let next = put_written(out, refusal(written));
     put_words(out, next, run)
 }
 
-// `MODE START LENGTH RECORD`, which MAKE follows in `ltc-write`, and TYPE and SECOND in `atc-write`.
+// `MODE START LENGTH RECORD`, which MAKE follows in `ltc-write`.
 fn take_bits_write(carrier: Carrier, line: &[u8], cursor: usize, n: &mut Numbers) -> bool {
     match carrier {
         Carrier::Ltc => take_numbers(line, cursor, b"bslbbbbffffffbbbbbbbbf", n),
@@ -90,15 +98,17 @@ pub fn answer_bits_write(carrier: Carrier, line: &[u8], cursor: usize, out: &mut
     0
 }
 
+// `MODE`, and then `FACE START LENGTH RECORD TYPE SECOND`, so that RECORD stands among the numbers where the other writes have it.
 pub fn answer_words_write(line: &[u8], cursor: usize, out: &mut [u8]) -> usize
     ensures { λ r. ⌜ r ≤ length (now (out .entry)) ⌝ }
 {
+    let mode = number_at(line, cursor, b'b');
     let mut n = [0u64; MOST_NUMBERS];
     let mut run = [0x777u16; 400];
-    if take_numbers(line, cursor, b"bslbbbbffffffbbbbbbbbbb", &mut n) {
+    if take_numbers(line, mode.next, b"bslbbbbffffffbbbbbbbbbb", &mut n) {
         let length = n[2] as usize;
         if length <= 400 {
-            return put_words_written(&n, &mut run[0..length], out);
+            return put_words_written(byte(mode.value), &n, &mut run[0..length], out);
         }
     }
     0

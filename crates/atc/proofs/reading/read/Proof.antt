@@ -1,7 +1,7 @@
--- `atc::reading::read` meets its contract: the form refuses as the list's first rows do, then the type, then the record.
+-- `atc::reading::read` meets its contract: the form refuses as the list's first rows do, then the type and the second byte, then the record.
 -- Assumes nothing.
 use borrow.Author.Needs.{needs}
-use Rattle.atc.proofs.ReadTests.{refused, to-14, to-22, high-type, unheld, held}
+use Rattle.atc.proofs.ReadTests.{refused, to-14, to-22, barred, held}
 use Rattle.atc.proofs.reading.read.Statement.{statement}
 use Rattle.atc.proofs.reading.read.Tie as tie
 
@@ -10,6 +10,9 @@ judge-requires c κs = search needs
 
 enum-known-found : tie.Need-enum-known-found
 enum-known-found c = search needs
+
+returns : tie.Need-returns
+returns c = search refused
 
 enum-told : tie.Need-enum-told
 enum-told c = search needs
@@ -26,11 +29,29 @@ part-byte-in-end c = search to-14
 byte-in-requires : tie.Need-byte-in-requires
 byte-in-requires c κs = search needs
 
-is-unknown-type-requires : tie.Need-is-unknown-type-requires
-is-unknown-type-requires c κs = search needs
+sub-byte-in-2 : tie.Need-sub-byte-in-2
+sub-byte-in-2 c = search needs
 
-returns : tie.Need-returns
-returns c = search high-type
+part-byte-in-start-2 : tie.Need-part-byte-in-start-2
+part-byte-in-start-2 c = search needs
+
+part-byte-in-end-2 : tie.Need-part-byte-in-end-2
+part-byte-in-end-2 c = search to-22
+
+byte-in-requires-2 : tie.Need-byte-in-requires-2
+byte-in-requires-2 c κs = search needs
+
+judge-requires-2 : tie.Need-judge-requires-2
+judge-requires-2 c κs = search needs
+
+enum-known-carried : tie.Need-enum-known-carried
+enum-known-carried c = search needs
+
+returns-2 : tie.Need-returns-2
+returns-2 c = search barred
+
+enum-told-2 : tie.Need-enum-told-2
+enum-told-2 c = search needs
 
 sub-info-in : tie.Need-sub-info-in
 sub-info-in c = search needs
@@ -47,32 +68,11 @@ info-in-requires c κs = search needs
 from-bits-requires : tie.Need-from-bits-requires
 from-bits-requires c κs = search needs
 
-enum-known-unpacked : tie.Need-enum-known-unpacked
-enum-known-unpacked c = search needs
-
-enum-known-unpacked-2 : tie.Need-enum-known-unpacked-2
-enum-known-unpacked-2 c = search needs
-
-sub-byte-in-2 : tie.Need-sub-byte-in-2
-sub-byte-in-2 c = search needs
-
-part-byte-in-start-2 : tie.Need-part-byte-in-start-2
-part-byte-in-start-2 c = search needs
-
-part-byte-in-end-2 : tie.Need-part-byte-in-end-2
-part-byte-in-end-2 c = search to-22
-
-byte-in-requires-2 : tie.Need-byte-in-requires-2
-byte-in-requires-2 c κs = search needs
-
-returns-2 : tie.Need-returns-2
-returns-2 c = search refused
+packet-as-requires : tie.Need-packet-as-requires
+packet-as-requires c κs = search needs
 
 returns-3 : tie.Need-returns-3
-returns-3 c = search unheld
-
-returns-4 : tie.Need-returns-4
-returns-4 c = search held
+returns-3 c = search held
 
 pub read-spec : {M : Type 1} → statement M
 read-spec =
@@ -80,24 +80,24 @@ read-spec =
     (tie.spec
     judge-requires
     enum-known-found
+    returns
     enum-told
     sub-byte-in
     part-byte-in-start
     part-byte-in-end
     byte-in-requires
-    is-unknown-type-requires
-    returns
+    sub-byte-in-2
+    part-byte-in-start-2
+    part-byte-in-end-2
+    byte-in-requires-2
+    judge-requires-2
+    enum-known-carried
+    returns-2
+    enum-told-2
     sub-info-in
     part-info-in-start
     part-info-in-end
     info-in-requires
     from-bits-requires
-    enum-known-unpacked
-    enum-known-unpacked-2
-    sub-byte-in-2
-    part-byte-in-start-2
-    part-byte-in-end-2
-    byte-in-requires-2
-    returns-2
-    returns-3
-    returns-4)
+    packet-as-requires
+    returns-3)

@@ -1,7 +1,8 @@
--- `atc::writing::write` meets its contract: mode and type are tested, the record refuses as its own rows do, and the rest is the packet's own answer.
+-- `atc::writing::write` meets its contract: the mode is tested, the type and the second byte are judged, the record refuses as its own rows do, and the rest is the
+-- packet's own answer.
 -- Assumes nothing.
 use borrow.Author.Needs.{needs}
-use Rattle.atc.proofs.WriteTests.{told, no-mode, no-type, no-record, placed}
+use Rattle.atc.proofs.WriteTests.{told, no-mode, no-payload, no-record, placed}
 use Rattle.atc.proofs.writing.write.Statement.{statement}
 use Rattle.atc.proofs.writing.write.Tie as tie
 
@@ -9,13 +10,19 @@ is-unknown-requires : tie.Need-is-unknown-requires
 is-unknown-requires c κs = search needs
 
 returns : tie.Need-returns
-returns c = no-mode _ _ _ _ _ _ (search told)
+returns c = no-mode _ _ _ _ _ _ _ (search told)
 
-is-unknown-type-requires : tie.Need-is-unknown-type-requires
-is-unknown-type-requires c κs = search needs
+judge-requires : tie.Need-judge-requires
+judge-requires c κs = search needs
+
+enum-known-carried : tie.Need-enum-known-carried
+enum-known-carried c = search needs
 
 returns-2 : tie.Need-returns-2
-returns-2 c = no-type _ _ _ _ _ _ (search told) (search told)
+returns-2 c = no-payload _ _ _ _ _ _ _ (search told) _ (search told)
+
+enum-told : tie.Need-enum-told
+enum-told c = search needs
 
 to-bits-requires : tie.Need-to-bits-requires
 to-bits-requires c κs = search needs
@@ -30,13 +37,13 @@ place-requires : tie.Need-place-requires
 place-requires c κs = search needs
 
 returns-3 : tie.Need-returns-3
-returns-3 c = no-record _ _ _ _ _ _ (search told) (search told) _ (search told)
+returns-3 c = no-record _ _ _ _ _ _ _ (search told) (search told) _ (search told)
 
 same-length : tie.Need-same-length
 same-length c = search needs
 
 returns-4 : tie.Need-returns-4
-returns-4 c = placed _ _ _ _ _ _ (search told) (search told) _ (search told) _ _ (c .before .before .place .ensures)
+returns-4 c = placed _ _ _ _ _ _ _ (search told) (search told) _ (search told) _ _ (c .before .before .place .ensures)
 
 pub write-spec : {M : Type 1} → statement M
 write-spec =
@@ -44,8 +51,10 @@ write-spec =
     (tie.spec
     is-unknown-requires
     returns
-    is-unknown-type-requires
+    judge-requires
+    enum-known-carried
     returns-2
+    enum-told
     to-bits-requires
     enum-known-packed
     enum-known-packed-2
