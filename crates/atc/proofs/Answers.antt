@@ -12,7 +12,6 @@ use Rattle.refusals.specs.Answer.{answer, inOrder}
 use Rattle.refusals.proofs.Answered.{Clear, carried, otherwise-accepted}
 use Rattle.refusals.proofs.ByNumber.{rowsBefore, clear-at, answer-from}
 use Rattle.record.specs.declared.types.Record.{Record}
-use Rattle.record.specs.declared.types.Unpacked.{Unpacked}
 use Rattle.record.specs.declared.types.Unpacked.the-variants.{Holds as Held, Refused as Unheld}
 use Rattle.modes.specs.Modes.{unknown, withMode}
 use Rattle.modes.specs.Calls.{recordIn, bitsRefusalsIn, unpackedIn}
@@ -20,7 +19,6 @@ use Rattle.words.specs.Words.{infoIn}
 use Rattle.packets.specs.Packet.{dataIn, typeIn, secondIn}
 use Rattle.packets.specs.Calls.{formRefusals}
 use Rattle.atc.specs.declared.types.Interface.{Interface}
-use Rattle.atc.specs.declared.types.Packet.{Packet}
 use Rattle.atc.specs.declared.types.Packet.the-variants.{Holds, Refused as Unread}
 use Rattle.atc.specs.Calls.{contentRefusals, readRefusals, contentsWith, packetAs, readOf, writtenRows}
 

@@ -34,8 +34,8 @@ module _ (mode : ℕ) (interface : Interface) (r : Record) (type second start : 
   abbrev rows : List Refusal
   rows = writtenRows mode interface r type second start run
 
-  abbrev own-of-payload : List Refusal
-  own-of-payload = payloadRefusals interface type second
+  abbrev payload-rows : List Refusal
+  payload-rows = payloadRefusals interface type second
 
   pub no-mode : unknown mode ≡ true → Outcome (Unwritten 2) run
   unfolding writtenOf runOf
@@ -47,17 +47,17 @@ module _ (mode : ℕ) (interface : Interface) (r : Record) (type second start : 
         → answer refused (withMode mode (writeRefusalsIn mode r)) accepted ≡ answer refused (writeRefusalsIn mode r) accepted
     past-mode refused accepted = rw known
 
-    pub no-payload : (n : ℕ) → verdictOf own-of-payload ≡ Unsound n → Outcome (Unwritten n) run
+    pub no-payload : (n : ℕ) → verdictOf payload-rows ≡ Unsound n → Outcome (Unwritten n) run
     unfolding writtenOf runOf
     no-payload n e = (
-      rw known (refused-by Unwritten _ own-of-payload (verdictOf own-of-payload) refl n e),
-      rw known (refused-by (λ (k : ℕ). run) _ own-of-payload (verdictOf own-of-payload) refl n e),
+      rw known (refused-by Unwritten _ payload-rows (verdictOf payload-rows) refl n e),
+      rw known (refused-by (λ (k : ℕ). run) _ payload-rows (verdictOf payload-rows) refl n e),
     )
 
-    module _ (fit : verdictOf own-of-payload ≡ Sound) where
+    module _ (fit : verdictOf payload-rows ≡ Sound) where
       -- no row before the record's own applies
       front : Clear (rowsBefore outside-the-clock rows)
-      front = (known, sound-clear Unwritten (Unwritten 0) own-of-payload (verdictOf own-of-payload) refl fit)
+      front = (known, sound-clear Unwritten (Unwritten 0) payload-rows (verdictOf payload-rows) refl fit)
 
       pub no-record : (n : ℕ) → packedIn mode r ≡ Unpackable n → Outcome (Unwritten n) run
       unfolding writtenOf runOf

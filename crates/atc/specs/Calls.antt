@@ -36,11 +36,6 @@ readRefusals mode interface words = formRefusals mode words ++ contentRefusals m
 abbrev pub contentsWith : Record → ℕ → ℕ → Contents
 contentsWith r type second = record { «record» = r; «payload_type» = type; second = second }
 
--- the record's own answer, with the type and the second byte beside it
-abbrev pub packetAs : ℕ → ℕ → Unpacked → Packet
-packetAs type second (Held r) = Holds (contentsWith r type second)
-packetAs type second (Unheld n) = Unread n
-
 -- "Reading gives record, type and second byte". "The mark travels unchecked"
 unfoldable pub readOf : ℕ → Interface → List ℕ → Packet
 readOf mode interface words =
@@ -64,3 +59,8 @@ packetOf mode r type second = packetWith (informationIn mode r) type second
 unfoldable pub runOf : ℕ → Interface → Record → ℕ → ℕ → ℕ → List ℕ → List ℕ
 runOf mode interface r type second start run =
     runAfter (writtenRows mode interface r type second start run) start (packetOf mode r type second) run
+
+-- A step of `read`, which no promise to a caller names: the record's own answer, with the type and the second byte beside it.
+abbrev pub packetAs : ℕ → ℕ → Unpacked → Packet
+packetAs type second (Held r) = Holds (contentsWith r type second)
+packetAs type second (Unheld n) = Unread n

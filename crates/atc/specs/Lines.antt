@@ -20,7 +20,7 @@ pub record Column : Type 0 where
 abbrev pub columnOf : ℕ → ℕ → ℕ → Column
 columnOf b5 first last = record { b5 = b5; first = first; last = last }
 
--- "Table 4 – VITC Line select number (SDTV interfaces only)": under "bit b5 = 0", "VITC on line N"; under "bit b5 = 1", "Repeated VITC on line (N+2)", which ends at the
+-- "Table 4 - VITC Line select number (SDTV interfaces only)": under "bit b5 = 0", "VITC on line N"; under "bit b5 = 1", "Repeated VITC on line (N+2)", which ends at the
 -- same line and so two numbers earlier
 -- "525/60": lines 10/273 to 20/283 (field 1/field 2); repeated, 12/275 to 20/283
 abbrev pub columns525 : List Column
@@ -39,12 +39,13 @@ abbrev pub someEntry : ℕ → List Column → Bool
 someEntry second [] = false
 someEntry second (column ∷ columns) = hasEntry second column || someEntry second columns
 
--- "any second byte whose low six bits have no entry in Table 4 .. The caller names the interface; the high definition choice skips the check"
-unfoldable pub noEntry : Interface → ℕ → Bool
-noEntry Lines525 second = not (someEntry second columns525)
-noEntry Lines625 second = not (someEntry second columns625)
-noEntry HighDefinition second = false
+-- "any second byte whose low six bits have no entry in Table 4 .. The caller names the interface; the high definition choice skips the check": there none is lacking,
+-- because none is asked for
+unfoldable pub lacksEntry : Interface → ℕ → Bool
+lacksEntry Lines525 second = not (someEntry second columns525)
+lacksEntry Lines625 second = not (someEntry second columns625)
+lacksEntry HighDefinition second = false
 
 -- "For types 1 and 2": VITC 1 and VITC 2
 abbrev pub impossibleLine : Interface → ℕ → ℕ → Bool
-impossibleLine interface type second = (eqb type 1 || eqb type 2) && noEntry interface second
+impossibleLine interface type second = (eqb type 1 || eqb type 2) && lacksEntry interface second

@@ -8,7 +8,7 @@ use crate::types::Interface;
 use refusals::Verdict;
 
 // "Payload type above 2".
-pub fn is_unknown_type(payload_type: u8) -> bool
+fn is_unknown_type(payload_type: u8) -> bool
     ensures { λ r. ⌜ r ≡ unknownType «payload_type» ⌝ }
 {
     2 < payload_type

@@ -4,7 +4,7 @@ ghost use Prim.Native.Nat.{_≤_};
 ghost use lib.ListN.{length};
 ghost use Rattle.words.specs.Words.{infoIn, byteIn};
 ghost use Rattle.atc.specs.Calls.{packetAs, readOf};
-use crate::payload::judge;
+use crate::payload;
 use crate::types::Contents;
 use crate::types::Interface;
 use crate::types::Packet;
@@ -62,7 +62,7 @@ pub fn read(mode: u8, interface: Interface, words: &[u16]) -> Packet
     }
     let payload_type = byte_in(&words[6..14]);
     let second = byte_in(&words[14..22]);
-    let carried = judge(interface, payload_type, second);
+    let carried = payload::judge(interface, payload_type, second);
     if let Verdict::Refused(number) = carried {
         return Packet::Refused(number);
     }

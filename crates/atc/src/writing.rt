@@ -1,7 +1,7 @@
 // From record, type and second byte to 23 words.
 ghost use mathlib.Core.Path.{_≡_};
 ghost use Rattle.atc.specs.Calls.{writtenOf, runOf};
-use crate::payload::judge;
+use crate::payload;
 use crate::types::Interface;
 use record::Packed;
 use record::Record;
@@ -23,7 +23,7 @@ pub fn write(
     if modes::is_unknown(mode) {
         return Written::Refused(refusals::UNKNOWN_MODE);
     }
-    let carried = judge(interface, payload_type, second);
+    let carried = payload::judge(interface, payload_type, second);
     if let Verdict::Refused(number) = carried {
         return Written::Refused(number);
     }

@@ -10,7 +10,7 @@ use mathlib.Core.List.{List}
 use mathlib.Core.Logic.{_↔_, _⊎_}
 use native.Mathlib.Omega.{arith}
 use lib.ListN.{length, take, drop}
-use Rattle.refusals.specs.Table.{wrong-check, impossible-line}
+use Rattle.refusals.specs.Table.{wrong-check}
 use Rattle.refusals.proofs.Answered.{Clear}
 use Rattle.bits.specs.Bits.{someAbove}
 use Rattle.runs.specs.declared.types.Written.the-variants.{Refused as Unwritten}
@@ -45,16 +45,17 @@ use Rattle.packets.specs.Packet.{typeIn, secondIn}
 use Rattle.packets.specs.Calls.{formRefusals}
 use Rattle.atc.specs.declared.types.Interface.{Interface}
 use Rattle.atc.specs.declared.types.Packet.the-variants.{Refused as Turned}
-use Rattle.atc.specs.Calls.{packetOf, writtenOf, readOf as packetRead}
+use Rattle.atc.specs.declared.types.Interface.the-variants.{HighDefinition}
+use Rattle.atc.specs.Calls.{packetOf, writtenOf, runOf, readOf as packetRead}
 use Rattle.trips.proofs.Packets as atc
 use Rattle.trips.proofs.Nineteen.{read-refused-by-19, written-refused-by-19}
 use Rattle.demands.specs.Modes.{CountingMode}
 use Rattle.demands.specs.Records.{Acceptable}
-use Rattle.demands.specs.Table4.{ClaimsNoLine}
+use Rattle.demands.specs.Table4.{ClaimsImpossibleLine}
 use Rattle.demands.specs.Carriers.{Carrier, linear, withBit, bitFor, FoundAsMade, interval, ancillary, only, Accepting, Reading, Matches}
 use Rattle.demands.proofs.Demand1.{linear-room, interval-room, ancillary-room}
 use Rattle.demands.proofs.Accepted.{known, allowed, acceptable-exactly}
-use Rattle.demands.proofs.LineNumbers.{impossible-exactly, payload-exactly}
+use Rattle.demands.proofs.LineNumbers.{impossible-exactly, possible, payload-exactly}
 
 -- "Frame numbers of a day and addresses match one to one, drop-frame or not": of `modes::number_of` and `modes::address_of`, in every mode.
 pub numbers-and-addresses :
@@ -263,22 +264,41 @@ interval-matches = matches interval interval-laws
 pub ancillary-matches : (interface : Interface) → Matches (ancillary interface)
 ancillary-matches interface = matches (ancillary interface) (ancillary-laws interface)
 
+-- of what is given exactly where two things hold, the second in other words
+as-claimed : {Given Form Applies Claims : Type 0} → Given ↔ (Form × Applies) → Applies ↔ Claims → Given ↔ (Form × Claims)
+as-claimed exactly claimed = (λ e. (exactly .0 e .0, claimed .0 (exactly .0 e .1)), λ both. exactly .1 (both .0, claimed .1 (both .1)))
+
 -- Document 02, A9: "For types 1 and 2 on 525 or 625 line interfaces, refuse by a new number 19 any second byte whose low six bits have no entry in Table 4": of words
 -- that have the form of a packet exactly then, whatever record they carry ("It is checked after 7"), and so of a write in a mode that is known. Shut out: type 0 or
 -- high definition checked; 8 given where 19 applies too; another table.
 pub ancillary-refused-by-19 :
     (interface : Interface) (mode : ℕ) (words : List ℕ)
-    → (packetRead mode interface words ≡ Turned impossible-line)
-    ↔ (Clear (formRefusals mode words) × ClaimsNoLine interface (typeIn words) (secondIn words))
+    → (packetRead mode interface words ≡ Turned 19)
+    ↔ (Clear (formRefusals mode words) × ClaimsImpossibleLine interface (typeIn words) (secondIn words))
 ancillary-refused-by-19 interface mode words =
-    let exactly = read-refused-by-19 mode interface words in
-    let claimed = impossible-exactly interface (typeIn words) (secondIn words) in
-    (λ e. (let both = exactly .0 e in (both .0, claimed .0 (both .1))), λ both. exactly .1 (both .0, claimed .1 (both .1)))
+    as-claimed (read-refused-by-19 mode interface words) (impossible-exactly interface (typeIn words) (secondIn words))
 
 pub ancillary-written-refused-by-19 :
     (interface : Interface) (mode : ℕ) (r : Record) (type second start : ℕ) (run : List ℕ)
-    → (writtenOf mode interface r type second start run ≡ Unwritten impossible-line) ↔ ((unknown mode ≡ false) × ClaimsNoLine interface type second)
+    → (writtenOf mode interface r type second start run ≡ Unwritten 19) ↔ ((unknown mode ≡ false) × ClaimsImpossibleLine interface type second)
 ancillary-written-refused-by-19 interface mode r type second start run =
-    let exactly = written-refused-by-19 mode interface r type second start run in
-    let claimed = impossible-exactly interface type second in
-    (λ e. (let both = exactly .0 e in (both .0, claimed .0 (both .1))), λ both. exactly .1 (both .0, claimed .1 (both .1)))
+    as-claimed (written-refused-by-19 mode interface r type second start run) (impossible-exactly interface type second)
+
+-- And nothing else depends on the interface: where no such line is claimed, a read and a write are what they are in high definition, which "skips the check". Shut
+-- out: another refusal, another record or other words on one interface than on another.
+pub ancillary-alike-read :
+    (interface : Interface) (mode : ℕ) (words : List ℕ) → (ClaimsImpossibleLine interface (typeIn words) (secondIn words) → ⊥)
+    → packetRead mode interface words ≡ packetRead mode HighDefinition words
+unfolding packetRead
+ancillary-alike-read interface mode words not-claimed =
+    rw (possible interface (typeIn words) (secondIn words) not-claimed, possible HighDefinition (typeIn words) (secondIn words) (λ claims. claims .0))
+
+pub ancillary-alike-written :
+    (interface : Interface) (mode : ℕ) (r : Record) (type second start : ℕ) (run : List ℕ) → (ClaimsImpossibleLine interface type second → ⊥)
+    → (writtenOf mode interface r type second start run ≡ writtenOf mode HighDefinition r type second start run)
+    × (runOf mode interface r type second start run ≡ runOf mode HighDefinition r type second start run)
+unfolding writtenOf runOf
+ancillary-alike-written interface mode r type second start run not-claimed =
+    let here = possible interface type second not-claimed in
+    let there = possible HighDefinition type second (λ claims. claims .0) in
+    (rw (here, there), rw (here, there))

@@ -1,110 +1,111 @@
--- The line numbers that can't be: what `atc` says by the ends of the columns is what Table 4 says as it is printed. One test, computed over all six bits of both
--- tables, and carried to every second byte.
+-- The line numbers that can't be: what `atc` says by the ends of the columns is what Table 4 says as it is printed. One test, computed over all six bits on both
+-- interfaces, and carried to every second byte.
 -- Assumes nothing.
-use Prim.Native.Nat.{ℕ, zero, suc, _/_, _%_, _<_, _≤_}
-use mathlib.Core.Path.{_≡_, refl, sym, ap, subst, _∙_}
+use Prim.Native.Nat.{ℕ, _+_, _/_, _%_, _≤_}
+use mathlib.Core.Path.{_≡_, refl, sym, _∙_}
 use mathlib.Core.Bool.{Bool, true, false, not, _&&_, _||_, true≢false}
+use mathlib.Core.List.{List, [], _∷_}
 use mathlib.Core.Logic.{_↔_, _⊎_, inl, inr}
 use native.Mathlib.Omega.{arith}
-use lib.Dec.{eqb, ltb}
-use borrow.Author.Tests.{eqb-true, eq-eqb, ltb-true, ltb-false, le-ltb}
+use lib.Dec.{eqb}
+use borrow.Author.Tests.{eqb-true, eq-eqb, ltb-false, le-ltb}
 use Rattle.refusals.specs.Table.{unknown-type, impossible-line}
 use Rattle.refusals.proofs.Answered.{Clear}
 use Rattle.refusals.proofs.ByNumber.{clear-at}
 use Rattle.runs.proofs.Same.{both-true}
+use Rattle.interval.specs.Line.{someBelow}
+use Rattle.interval.proofs.Lists.{none-of}
 use Rattle.atc.specs.declared.types.Interface.{Interface}
 use Rattle.atc.specs.declared.types.Interface.the-variants.{Lines525, Lines625, HighDefinition}
-use Rattle.atc.specs.Lines.{noEntry, impossibleLine}
+use Rattle.atc.specs.Lines.{lacksEntry, impossibleLine}
 use Rattle.atc.specs.Calls.{payloadRefusals}
-use Rattle.demands.specs.Table4.{none, table4, entryAmong, OfLines, ClaimsNoLine}
+use Rattle.trips.proofs.Nineteen.{claims-a-line}
+use Rattle.demands.specs.Table4.{Row, none, table4, entryAmong, OfLines, ClaimsImpossibleLine}
 
--- two tests that say the same
-abbrev alike : Bool → Bool → Bool
-alike true b = b
-alike false b = not b
+-- "VITC on line N", "Repeated VITC on line (N+2)": each entry of the table is the line that its number stands for
+abbrev stands : ℕ → ℕ → Bool
+stands line entry = eqb entry none || eqb entry line
 
-alike-same : (a b : Bool) → alike a b ≡ true → a ≡ b
-alike-same true b e = sym e
-alike-same false true e = absurd (true≢false (sym e))
-alike-same false false e = refl
+abbrev allStand : List Row → Bool
+allStand [] = true
+allStand (r ∷ rows) =
+    (stands (r .number) (r .once525) && stands (r .number + 2) (r .repeated525))
+    && ((stands (r .number) (r .once625) && stands (r .number + 2) (r .repeated625)) && allStand rows)
 
--- a test of each number below another
-abbrev eachBelow : ℕ → (ℕ → Bool) → Bool
-eachBelow zero test = true
-eachBelow (suc n) test = test n && eachBelow n test
+pub entries-stand : allStand table4 ≡ true
+unfolding table4
+entries-stand = refl
 
-at-each : (test : ℕ → Bool) (n : ℕ) → eachBelow n test ≡ true → (i : ℕ) → i < n → test i ≡ true
-at-each test zero all i low = absurd (omega arith)
-at-each test (suc n) all i low = go (ltb i n) refl (at-each test n (both-true (test n) (eachBelow n test) all .1) i)
-  where
-    go : (t : Bool) → ltb i n ≡ t → (i < n → test i ≡ true) → test i ≡ true
-    go true t rest = rest (ltb-true i n t)
-    go false t rest =
-        let high = ltb-false i n t in
-        let last : n ≡ i = omega arith in
-        subst (λ (j : ℕ). test j ≡ true) last (both-true (test n) (eachBelow n test) all .0)
+-- the table says of six bits something else than the ends of their columns
+abbrev unlike : Bool → Bool → Bool
+unlike true b = not b
+unlike false b = b
 
--- the table says of six bits what their columns' ends say
-abbrev agrees : Interface → ℕ → Bool
-agrees interface six = alike (noEntry interface six) (eqb (entryAmong interface six table4) none)
+like : (a b : Bool) → unlike a b ≡ false → a ≡ b
+like true true e = refl
+like true false e = absurd (true≢false e)
+like false b e = sym e
 
-all-agree : (interface : Interface) → OfLines interface → eachBelow 64 (agrees interface) ≡ true
-unfolding noEntry entryAmong table4
-all-agree Lines525 lines = refl
-all-agree Lines625 lines = refl
+abbrev differs : Interface → ℕ → Bool
+differs interface six = unlike (lacksEntry interface six) (eqb (entryAmong interface six table4) none)
+
+none-differs : (interface : Interface) → OfLines interface → someBelow 64 (differs interface) ≡ false
+unfolding lacksEntry entryAmong table4 someBelow
+none-differs Lines525 lines = refl
+none-differs Lines625 lines = refl
 
 -- only the low six bits are looked at
-low-six : (interface : Interface) (second : ℕ) → noEntry interface second ≡ noEntry interface (second % 64)
-unfolding noEntry
+low-six : (interface : Interface) (second : ℕ) → lacksEntry interface second ≡ lacksEntry interface (second % 64)
+unfolding lacksEntry
 low-six interface second =
-    let fifth : second / 32 % 2 ≡ second % 64 / 32 % 2 = omega arith in
-    let lower : second % 32 ≡ second % 64 % 32 = omega arith in
-    go interface fifth lower
+    let b5 : second / 32 % 2 ≡ second % 64 / 32 % 2 = omega arith in
+    let number : second % 32 ≡ second % 64 % 32 = omega arith in
+    go interface b5 number
   where
-    go : (face : Interface) → second / 32 % 2 ≡ second % 64 / 32 % 2 → second % 32 ≡ second % 64 % 32 → noEntry face second ≡ noEntry face (second % 64)
-    go Lines525 fifth lower = rw (fifth, lower)
-    go Lines625 fifth lower = rw (fifth, lower)
-    go HighDefinition fifth lower = refl
+    go : (face : Interface) → second / 32 % 2 ≡ second % 64 / 32 % 2 → second % 32 ≡ second % 64 % 32 → lacksEntry face second ≡ lacksEntry face (second % 64)
+    go Lines525 b5 number = rw (b5, number)
+    go Lines625 b5 number = rw (b5, number)
+    go HighDefinition b5 number = refl
 
-as-printed : (interface : Interface) → OfLines interface → (second : ℕ) → noEntry interface second ≡ eqb (entryAmong interface (second % 64) table4) none
+as-printed : (interface : Interface) → OfLines interface → (second : ℕ) → lacksEntry interface second ≡ eqb (entryAmong interface (second % 64) table4) none
 as-printed interface lines second =
-    low-six interface second ∙ alike-same _ _ (at-each (agrees interface) 64 (all-agree interface lines) (second % 64) (omega arith))
+    low-six interface second ∙ like _ _ (none-of (differs interface) 64 (second % 64) (omega arith) (none-differs interface lines))
+
+of-lines : (interface : Interface) (second : ℕ) → lacksEntry interface second ≡ true → OfLines interface
+unfolding lacksEntry
+of-lines Lines525 second e = tt
+of-lines Lines625 second e = tt
+of-lines HighDefinition second e = absurd (true≢false (sym e))
 
 module _ (interface : Interface) (type second : ℕ) where
-  of-lines : (face : Interface) → noEntry face second ≡ true → OfLines face
-  unfolding noEntry
-  of-lines Lines525 e = tt
-  of-lines Lines625 e = tt
-  of-lines HighDefinition e = absurd (true≢false (sym e))
-
-  one-of : (s : Bool) → eqb type 1 ≡ s → (s || eqb type 2) ≡ true → (type ≡ 1) ⊎ (type ≡ 2)
-  one-of true one e = inl (eqb-true type 1 one)
-  one-of false one e = inr (eqb-true type 2 e)
-
   either : (type ≡ 1) ⊎ (type ≡ 2) → (eqb type 1 || eqb type 2) ≡ true
   either (inl one) = rw (eq-eqb type 1 one)
   either (inr two) = rw two
 
   -- 19 applies exactly where the request says
-  pub impossible-exactly : (impossibleLine interface type second ≡ true) ↔ ClaimsNoLine interface type second
+  pub impossible-exactly : (impossibleLine interface type second ≡ true) ↔ ClaimsImpossibleLine interface type second
   impossible-exactly = (
     λ e.
-        (let both = both-true (eqb type 1 || eqb type 2) (noEntry interface second) e in
-        let lines = of-lines interface (both .1) in
-        (lines, one-of (eqb type 1) refl (both .0), eqb-true _ none (sym (as-printed interface lines second) ∙ both .1))),
+        (let lacking = both-true (eqb type 1 || eqb type 2) (lacksEntry interface second) e .1 in
+        let lines = of-lines interface second lacking in
+        (lines, claims-a-line interface type second e, eqb-true _ none (sym (as-printed interface lines second) ∙ lacking))),
     λ claims. rw (either (claims .1), as-printed interface (claims .0) second, claims .2),
   )
 
-  -- and neither 7 nor 19 does exactly where the type is up to 2 and no such line is claimed
-  pub payload-exactly : Clear (payloadRefusals interface type second) ↔ ((type ≤ 2) × (ClaimsNoLine interface type second → ⊥))
+  -- and elsewhere it does not
+  pub possible : (ClaimsImpossibleLine interface type second → ⊥) → impossibleLine interface type second ≡ false
+  possible not-claimed = go (impossibleLine interface type second) refl
+    where
+      go : (t : Bool) → impossibleLine interface type second ≡ t → t ≡ false
+      go true e = absurd (not-claimed (impossible-exactly .0 e))
+      go false e = refl
+
+  -- neither 7 nor 19 applies exactly where the type is up to 2 and no such line is claimed
+  pub payload-exactly : Clear (payloadRefusals interface type second) ↔ ((type ≤ 2) × (ClaimsImpossibleLine interface type second → ⊥))
   payload-exactly = (
     λ clear. (
       ltb-false 2 type (clear-at unknown-type (payloadRefusals interface type second) clear),
       λ claims. true≢false (sym (impossible-exactly .1 claims) ∙ clear-at impossible-line (payloadRefusals interface type second) clear),
     ),
-    λ ok. (le-ltb 2 type (ok .0), (go (impossibleLine interface type second) refl (ok .1), tt)),
+    λ ok. (le-ltb 2 type (ok .0), (possible (ok .1), tt)),
   )
-    where
-      go : (t : Bool) → impossibleLine interface type second ≡ t → (ClaimsNoLine interface type second → ⊥) → t ≡ false
-      go true e none-claimed = absurd (none-claimed (impossible-exactly .0 e))
-      go false e none-claimed = refl

@@ -16,10 +16,10 @@ use Rattle.interval.specs.Line.{each, onesFrom, groups, payload, crcOf, lineWit
 use Rattle.vitc.specs.Calls as vitc
 use Rattle.words.specs.Words.{dataWord, dataWords, sum9}
 use Rattle.packets.specs.Packet.{header, checksumOf, frontOf, packetWith}
-use Rattle.atc.specs.Lines.{noEntry}
+use Rattle.atc.specs.Lines.{lacksEntry}
 use Rattle.atc.specs.Calls as atc
 use Rattle.demands.specs.Bars.{bars, onesAmong, packed, Rehearsed}
 
 pub rehearsed : Rehearsed bars
-unfolding bars onesAmong packed numberIn addressIn fieldsIn spanIn numberOf addressOf fieldsOf spanOf value toBits howMany placed join layout fieldsOfRecord infoOf syncWord oddZeros wordOf each onesFrom groups payload crcOf lineWith vitc.lineOf dataWords dataWord sum9 header checksumOf frontOf packetWith countOf distanceOf ltc.runOf ltc.writtenRows noEntry atc.runOf unknown rateAt
+unfolding bars onesAmong packed numberIn addressIn fieldsIn spanIn numberOf addressOf fieldsOf spanOf value toBits howMany placed join layout fieldsOfRecord infoOf syncWord oddZeros wordOf each onesFrom groups payload crcOf lineWith vitc.lineOf dataWords dataWord sum9 header checksumOf frontOf packetWith countOf distanceOf ltc.runOf ltc.writtenRows lacksEntry atc.runOf unknown rateAt
 rehearsed = refl

@@ -26,7 +26,7 @@ use Rattle.atc.specs.declared.types.Contents.{Contents}
 use Rattle.atc.specs.Calls as atc
 use Rattle.atc.specs.declared.types.Packet.the-variants.{Holds as Carries}
 use Rattle.demands.specs.Records.{Acceptable}
-use Rattle.demands.specs.Table4.{ClaimsNoLine}
+use Rattle.demands.specs.Table4.{ClaimsImpossibleLine}
 
 -- What is needed of the bounds that the types of a carrier's calls set; what it takes, by mode; and what its calls promise: that a write of a content from a
 -- start in a lent run is done; that it is refused with a number; the run as the write leaves it; and that a read of some elements gives a content.
@@ -89,7 +89,7 @@ ancillary interface =
       Given = λ c. c .second < 256;
       Accepts =
           λ mode c. Acceptable mode (c .«record») × (c .«payload_type» ≤ 2) × (c .second < 256)
-          × (ClaimsNoLine interface (c .«payload_type») (c .second) → ⊥);
+          × (ClaimsImpossibleLine interface (c .«payload_type») (c .second) → ⊥);
       Writes = λ mode c start run. (c .second < 256) × (atc.writtenOf mode interface (c .«record») (c .«payload_type») (c .second) start run ≡ Done);
       Refuses = λ mode c start run number. atc.writtenOf mode interface (c .«record») (c .«payload_type») (c .second) start run ≡ Refused number;
       leaves = λ mode c. atc.runOf mode interface (c .«record») (c .«payload_type») (c .second);

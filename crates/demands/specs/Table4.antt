@@ -10,7 +10,7 @@ use lib.Dec.{eqb}
 use Rattle.atc.specs.declared.types.Interface.{Interface}
 use Rattle.atc.specs.declared.types.Interface.the-variants.{Lines525, Lines625, HighDefinition}
 
--- an entry is a line, of which field 1's number is given here; where the table has a dash there is none
+-- an entry is a line, of which field 1's number is given here; where the table has no line, none
 abbrev pub none : ℕ
 none = 0
 
@@ -71,5 +71,5 @@ OfLines Lines625 = Unit {0}
 OfLines HighDefinition = ⊥
 
 -- "For types 1 and 2 on 525 or 625 line interfaces .. any second byte whose low six bits have no entry in Table 4"
-abbrev pub ClaimsNoLine : Interface → ℕ → ℕ → Type 0
-ClaimsNoLine interface type second = OfLines interface × ((type ≡ 1) ⊎ (type ≡ 2)) × (entryAmong interface (second % 64) table4 ≡ none)
+abbrev pub ClaimsImpossibleLine : Interface → ℕ → ℕ → Type 0
+ClaimsImpossibleLine interface type second = OfLines interface × ((type ≡ 1) ⊎ (type ≡ 2)) × (entryAmong interface (second % 64) table4 ≡ none)

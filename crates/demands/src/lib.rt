@@ -2,6 +2,7 @@
 //
 // specs/Modes        the four counting modes
 // specs/Records      the records that can be carried
+// specs/Table4       the line numbers that a packet may claim, as the source prints them
 // specs/Carriers     what it is for a write to be done or refused, and for words and records to match one to one
 // specs/Bars         the bars that document 01 marks P, one table
 // proofs/Demand1     a write is done or refused, and one that is refused changes no element
@@ -11,5 +12,6 @@
 // proofs/Reverse     demand 3 of readers that hear both ways
 // proofs/Rehearsed   the bars, under one claim
 // proofs/Accepted    a record is clear of its refusals exactly where it is acceptable
+// proofs/LineNumbers the line numbers that a packet may not claim are those that the printed table has no entry for
 //
 // What else demand 1 asks for is in the promises of the calls themselves: docs/PROMISES.md says where.

@@ -1,5 +1,5 @@
--- "The lowest that applies is given, except that 13 comes straight after 2": of a list that follows an order, the first number of the order that
--- applies is given.
+-- "The lowest that applies is given, except that 13 comes straight after 2" (and 19 straight after 7): of a list that follows an order, the first number of the
+-- order that applies is given.
 -- Assumes nothing.
 use Prim.Native.Nat.{ℕ, _<_}
 use mathlib.Core.Path.{_≡_, refl, sym, ap, _∙_}
@@ -82,7 +82,7 @@ module _ {A : Type 0} (refused : ℕ → A) (accepted : A) where
           rw (here, number) (own number (later rest) (row .applies) refl)
       go false different rest later all = rw (absent n order (row ∷ rows) (apart .0) rest) (all rest)
 
-  -- the same of document 01's order
+  -- the same of the order of the table
   pub first-of-the-order : (rows : List Refusal) → inOrder theOrder rows ≡ true → answer refused rows accepted ≡ firstOf theOrder refused rows accepted
   first-of-the-order = first-is-given theOrder refl
 

@@ -20,7 +20,7 @@ pub struct Taken {
     pub next: usize,
 }
 
-// No request has more numbers than this.
+// No form has more numbers than this.
 pub const MOST_NUMBERS: usize = 23;
 
 pub type Numbers = [u64; MOST_NUMBERS];

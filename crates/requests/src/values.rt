@@ -72,7 +72,7 @@ fn groups_in(n: &Numbers) -> Groups {
     }
 }
 
-// RECORD, from the fourth number of a write on.
+// RECORD, from the fourth number of a write's form on.
 pub fn record_in(n: &Numbers) -> Record
     ensures { λ r. ⌜ r .address ≡ addressFrom 3 (now (n .entry)) ⌝ }
 {

@@ -1,15 +1,14 @@
 -- 19 is given exactly where the second byte claims a line number that can't be, and no number before 19 applies: read and written.
 -- Assumes nothing.
-use Prim.Native.Nat.{ℕ, _≤_}
+use Prim.Native.Nat.{ℕ}
 use mathlib.Core.Path.{_≡_, refl}
 use mathlib.Core.Bool.{Bool, true, false, _||_}
 use mathlib.Core.List.{List}
-use mathlib.Core.Logic.{_↔_}
+use mathlib.Core.Logic.{_↔_, _⊎_, inl, inr, ⊎-elim}
 use native.Mathlib.Omega.{arith}
 use lib.Dec.{eqb}
-use borrow.Author.Tests.{eqb-true, le-ltb}
+use borrow.Author.Tests.{eqb-true}
 use Rattle.refusals.specs.Table.{unknown-mode, unknown-type, impossible-line}
-use Rattle.refusals.specs.Answer.{Refusal}
 use Rattle.refusals.proofs.Answered.{Clear}
 use Rattle.refusals.proofs.ByNumber.{rowsBefore, clear-at, clear-before, clear-whole}
 use Rattle.refusals.proofs.First.{given-exactly}
@@ -23,7 +22,7 @@ use Rattle.packets.specs.Calls.{formRefusals}
 use Rattle.atc.specs.declared.types.Interface.{Interface}
 use Rattle.atc.specs.declared.types.Packet.{Packet}
 use Rattle.atc.specs.declared.types.Packet.the-variants.{Holds, Refused as Unread}
-use Rattle.atc.specs.Lines.{noEntry, impossibleLine}
+use Rattle.atc.specs.Lines.{lacksEntry, impossibleLine}
 use Rattle.atc.specs.Calls.{readRefusals, readOf, writtenRows, writtenOf}
 use Rattle.atc.proofs.Answers.{read-rows-in-order, written-rows-in-order}
 
@@ -36,13 +35,17 @@ ofWritten : Written → ℕ
 ofWritten Done = 0
 ofWritten (Unwritten n) = n
 
--- the types that claim a line are known
-low-type : (interface : Interface) (type second : ℕ) → impossibleLine interface type second ≡ true → unknownType type ≡ false
-low-type interface type second e = le-ltb 2 type (go (eqb type 1) refl (both-true (eqb type 1 || eqb type 2) (noEntry interface second) e .0))
+-- "types 1 and 2" claim a line, and no others
+pub claims-a-line : (interface : Interface) (type second : ℕ) → impossibleLine interface type second ≡ true → (type ≡ 1) ⊎ (type ≡ 2)
+claims-a-line interface type second e = go (eqb type 1) refl (both-true (eqb type 1 || eqb type 2) (lacksEntry interface second) e .0)
   where
-    go : (s : Bool) → eqb type 1 ≡ s → (s || eqb type 2) ≡ true → type ≤ 2
-    go true one t = let same = eqb-true type 1 one in omega arith
-    go false one t = let same = eqb-true type 2 t in omega arith
+    go : (s : Bool) → eqb type 1 ≡ s → (s || eqb type 2) ≡ true → (type ≡ 1) ⊎ (type ≡ 2)
+    go true one t = inl (eqb-true type 1 one)
+    go false one t = inr (eqb-true type 2 t)
+
+-- and they are known
+low-type : (interface : Interface) (type second : ℕ) → impossibleLine interface type second ≡ true → unknownType type ≡ false
+low-type interface type second e = ⊎-elim (λ one. rw one) (λ two. rw two) (claims-a-line interface type second e)
 
 module _ (mode : ℕ) (interface : Interface) where
   pub read-refused-by-19 :

@@ -5,4 +5,4 @@
 // proofs/Records  the 64 bits and a record; proofs/ByMode the same by mode
 // proofs/Words    linear words and records; proofs/Five when a word is refused by 5
 // proofs/Lines    vertical interval lines and records
-// proofs/Packets  packets, and record, type and second byte
+// proofs/Packets  packets, and record, type and second byte; proofs/Nineteen when a packet is refused by 19

@@ -6,12 +6,12 @@ use mathlib.Core.Bool.{Bool, _&&_, _||_}
 use lib.Dec.{eqb}
 use borrow.Author.Needs.{needs}
 use Rattle.atc.specs.declared.types.Interface.{Interface}
-use Rattle.atc.specs.Lines.{noEntry, impossibleLine}
+use Rattle.atc.specs.Lines.{lacksEntry, impossibleLine}
 use Rattle.atc.proofs.lines.is_impossible_line.Statement.{statement}
 use Rattle.atc.proofs.lines.is_impossible_line.Tie as tie
 
 asked :
-    (interface : Interface) (type second : ℕ) (lacking : Bool) → lacking ≡ noEntry interface second
+    (interface : Interface) (type second : ℕ) (lacking : Bool) → lacking ≡ lacksEntry interface second
     → ((eqb type 1 || eqb type 2) && lacking) ≡ impossibleLine interface type second
 asked interface type second lacking e = ap (λ (b : Bool). (eqb type 1 || eqb type 2) && b) e
 

@@ -1,12 +1,12 @@
 -- `atc::lines::lacks_entry` meets its contract: it asks both columns of the interface.
 -- Assumes nothing.
 use Prim.Native.Nat.{ℕ}
-use mathlib.Core.Path.{_≡_, refl, sym, ap}
+use mathlib.Core.Path.{_≡_, refl, ap}
 use mathlib.Core.Bool.{Bool, true, false, not, _||_}
 use borrow.Author.Needs.{needs}
 use Rattle.atc.specs.declared.types.Interface.{Interface}
 use Rattle.atc.specs.declared.types.Interface.the-variants.{Lines525, Lines625, HighDefinition}
-use Rattle.atc.specs.Lines.{columnOf, hasEntry, noEntry}
+use Rattle.atc.specs.Lines.{columnOf, hasEntry, lacksEntry}
 use Rattle.atc.proofs.lines.lacks_entry.Statement.{statement}
 use Rattle.atc.proofs.lines.lacks_entry.Tie as tie
 
@@ -19,18 +19,18 @@ last-column false false = refl
 module _ (interface : Interface) (second : ℕ) (once again : Bool) where
   of-525 :
       once ≡ hasEntry second (columnOf 0 10 20) → again ≡ hasEntry second (columnOf 1 10 18) → interface ≡ Lines525
-      → not (once || again) ≡ noEntry interface second
-  unfolding noEntry
+      → not (once || again) ≡ lacksEntry interface second
+  unfolding lacksEntry
   of-525 first next is = rw (is, ← first, ← next) (ap not (last-column once again))
 
   of-625 :
       once ≡ hasEntry second (columnOf 0 6 22) → again ≡ hasEntry second (columnOf 1 6 20) → interface ≡ Lines625
-      → not (once || again) ≡ noEntry interface second
-  unfolding noEntry
+      → not (once || again) ≡ lacksEntry interface second
+  unfolding lacksEntry
   of-625 first next is = rw (is, ← first, ← next) (ap not (last-column once again))
 
-not-looked-at : (interface : Interface) (second : ℕ) → interface ≡ HighDefinition → false ≡ noEntry interface second
-unfolding noEntry
+not-looked-at : (interface : Interface) (second : ℕ) → interface ≡ HighDefinition → false ≡ lacksEntry interface second
+unfolding lacksEntry
 not-looked-at interface second is = rw is
 
 enum-told : tie.Need-enum-told

@@ -1,7 +1,7 @@
 -- `atc::payload::judge` meets its contract: its tests are those of the list of refusals.
 -- Assumes nothing.
 use Prim.Native.Nat.{ℕ}
-use mathlib.Core.Path.{_≡_, sym, _∙_}
+use mathlib.Core.Path.{_≡_}
 use mathlib.Core.Bool.{Bool, true, false}
 use borrow.Author.Needs.{needs}
 use Rattle.refusals.specs.declared.types.Verdict.the-variants.{Sound, Refused}

@@ -1,0 +1,2 @@
+-- Faces     the interface that a number names
+pub mod Faces
