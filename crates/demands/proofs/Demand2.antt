@@ -264,7 +264,7 @@ interval-matches = matches interval interval-laws
 pub ancillary-matches : (interface : Interface) → Matches (ancillary interface)
 ancillary-matches interface = matches (ancillary interface) (ancillary-laws interface)
 
--- of what is given exactly where two things hold, the second in other words
+-- where a number is given exactly if the form is right and its test holds, the test may be said in the request's words
 as-claimed : {Given Form Applies Claims : Type 0} → Given ↔ (Form × Applies) → Applies ↔ Claims → Given ↔ (Form × Claims)
 as-claimed exactly claimed = (λ e. (exactly .0 e .0, claimed .0 (exactly .0 e .1)), λ both. exactly .1 (both .0, claimed .1 (both .1)))
 

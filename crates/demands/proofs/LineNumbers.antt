@@ -36,7 +36,7 @@ pub entries-stand : allStand table4 ≡ true
 unfolding table4
 entries-stand = refl
 
--- the table says of six bits something else than the ends of their columns
+-- one of two tests holds and the other does not
 abbrev unlike : Bool → Bool → Bool
 unlike true b = not b
 unlike false b = b
@@ -46,6 +46,7 @@ like true true e = refl
 like true false e = absurd (true≢false e)
 like false b e = sym e
 
+-- the table says of six bits something else than the ends of their columns
 abbrev differs : Interface → ℕ → Bool
 differs interface six = unlike (lacksEntry interface six) (eqb (entryAmong interface six table4) none)
 
@@ -67,7 +68,7 @@ low-six interface second =
     go Lines625 b5 number = rw (b5, number)
     go HighDefinition b5 number = refl
 
-as-printed : (interface : Interface) → OfLines interface → (second : ℕ) → lacksEntry interface second ≡ eqb (entryAmong interface (second % 64) table4) none
+pub as-printed : (interface : Interface) → OfLines interface → (second : ℕ) → lacksEntry interface second ≡ eqb (entryAmong interface (second % 64) table4) none
 as-printed interface lines second =
     low-six interface second ∙ like _ _ (none-of (differs interface) 64 (second % 64) (omega arith) (none-differs interface lines))
 

@@ -82,7 +82,7 @@ module _ {A : Type 0} (refused : ℕ → A) (accepted : A) where
           rw (here, number) (own number (later rest) (row .applies) refl)
       go false different rest later all = rw (absent n order (row ∷ rows) (apart .0) rest) (all rest)
 
-  -- the same of the order of the table
+  -- the same of `theOrder`
   pub first-of-the-order : (rows : List Refusal) → inOrder theOrder rows ≡ true → answer refused rows accepted ≡ firstOf theOrder refused rows accepted
   first-of-the-order = first-is-given theOrder refl
 

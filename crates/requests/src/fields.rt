@@ -117,8 +117,8 @@ pub fn number_in(text: &[u8], base: u64, most: u64) -> Parsed
     Parsed::Value(value)
 }
 
-// A form, which is a request's or the rest of one's, has a letter for each of its numbers: b for a byte, c for COUNT, f for a flag, k for KIND, l for LENGTH, n for N, and
-// s for START and LIMIT.
+// A form has a letter for each number of a request, or of the rest of one: b for a byte, c for COUNT, f for a flag, k for KIND, l for LENGTH,
+// n for N, and s for START and LIMIT.
 fn limit_of(letter: u8) -> u64
     ensures { λ r. ⌜ r ≡ plainLimit letter ⌝ }
 {

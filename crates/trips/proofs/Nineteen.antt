@@ -26,7 +26,7 @@ use Rattle.atc.specs.Lines.{lacksEntry, impossibleLine}
 use Rattle.atc.specs.Calls.{readRefusals, readOf, writtenRows, writtenOf}
 use Rattle.atc.proofs.Answers.{read-rows-in-order, written-rows-in-order}
 
--- the number that a read, or a write, is refused with
+-- the number that a read, or a write, is refused with, and 0 where it is not
 ofPacket : Packet → ℕ
 ofPacket (Holds contents) = 0
 ofPacket (Unread n) = n
