@@ -1,7 +1,7 @@
 -- "refused by 5 only if its zeros are odd and its polarity bit is 1": there, where no number before 5 applies, and nowhere else.
 -- Assumes nothing.
 use Prim.Native.Nat.{ℕ}
-use mathlib.Core.Path.{_≡_, refl, sym, ap, _∙_}
+use mathlib.Core.Path.{_≡_, refl, sym}
 use mathlib.Core.Bool.{Bool, true, false, _&&_, true≢false}
 use mathlib.Core.List.{List}
 use mathlib.Core.Logic.{_↔_}
@@ -9,22 +9,19 @@ use native.Mathlib.Omega.{arith}
 use lib.ListN.{length, drop}
 use borrow.Author.Tests.{eqb-true, eq-eqb, not-false}
 use Rattle.refusals.specs.Table.{wrong-length, unknown-mode, element-too-high, wrong-sync, wrong-check}
-use Rattle.refusals.specs.Answer.{Refusal, answer}
-use Rattle.refusals.proofs.Answered.{carried}
-use Rattle.refusals.proofs.ByNumber.{rowsBefore, clear-at, given-before}
-use Rattle.refusals.proofs.First.{given-applies}
+use Rattle.refusals.specs.Answer.{Refusal}
+use Rattle.refusals.proofs.ByNumber.{rowsBefore, clear-at}
+use Rattle.refusals.proofs.First.{given-exactly}
 use Rattle.bits.specs.Bits.{someAbove}
 use Rattle.runs.specs.Run.{same}
 use Rattle.runs.proofs.Same.{same-itself, same-elements}
 use Rattle.rates.specs.declared.types.Flag.{Flag}
 use Rattle.rates.specs.declared.types.Flag.the-variants.{No, Yes}
 use Rattle.rates.specs.Rates.{isYes}
-use Rattle.record.specs.Record.{marked}
 use Rattle.modes.specs.Modes.{unknown, rateAt}
-use Rattle.modes.specs.Calls.{recordIn}
 use Rattle.polarity.specs.declared.types.Word.{Word}
 use Rattle.polarity.specs.declared.types.Word.the-variants.{Holds, Refused}
-use Rattle.polarity.specs.Word.{syncWord, infoIn, oddZeros, polarityBit, foundIn}
+use Rattle.polarity.specs.Word.{syncWord, oddZeros, polarityBit}
 use Rattle.ltc.specs.Calls.{readRefusals, readOf}
 use Rattle.ltc.proofs.Rows.{read-rows-in-order}
 
@@ -54,10 +51,9 @@ module _ (mode : ℕ) (word : List ℕ) where
   there : readOf mode word ≡ Refused wrong-check → Miscorrected mode word
   unfolding readOf numberIn
   there e =
-      let given : answer (λ (k : ℕ). k) rows 0 ≡ wrong-check =
-      sym (carried numberIn Refused (Holds (marked No (recordIn mode (infoIn word))) (foundIn word)) rows) ∙ ap numberIn e in
-      let clear = given-before wrong-check rows given in
-      let set = both (oddZeros word) (polarityBit (rateAt mode) word) (given-applies wrong-check (omega arith) rows (read-rows-in-order mode word) given) in (
+      let given = given-exactly Refused _ numberIn (λ k. refl) refl wrong-check (omega arith) rows (read-rows-in-order mode word) .0 e in
+      let clear = given .0 in
+      let set = both (oddZeros word) (polarityBit (rateAt mode) word) (given .1) in (
         eqb-true (length word) 80 (not-false _ (clear-at wrong-length before clear)),
         clear-at unknown-mode before clear,
         clear-at element-too-high before clear,

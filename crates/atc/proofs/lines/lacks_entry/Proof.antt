@@ -3,10 +3,11 @@
 use Prim.Native.Nat.{ℕ}
 use mathlib.Core.Path.{_≡_, refl, ap}
 use mathlib.Core.Bool.{Bool, true, false, not, _||_}
+use mathlib.Core.List.{[], _∷_}
 use borrow.Author.Needs.{needs}
 use Rattle.atc.specs.declared.types.Interface.{Interface}
 use Rattle.atc.specs.declared.types.Interface.the-variants.{Lines525, Lines625, HighDefinition}
-use Rattle.atc.specs.Lines.{columnOf, hasEntry, lacksEntry}
+use Rattle.atc.specs.Lines.{Column, columnOf, hasEntry, someEntry, lacksEntry}
 use Rattle.atc.proofs.lines.lacks_entry.Statement.{statement}
 use Rattle.atc.proofs.lines.lacks_entry.Tie as tie
 
@@ -16,18 +17,12 @@ last-column true again = refl
 last-column false true = refl
 last-column false false = refl
 
-module _ (interface : Interface) (second : ℕ) (once again : Bool) where
-  of-525 :
-      once ≡ hasEntry second (columnOf 0 10 20) → again ≡ hasEntry second (columnOf 1 10 18) → interface ≡ Lines525
+-- of an interface that has two columns: an answer of each
+module _ (face : Interface) (left right : Column) (says : (second : ℕ) → lacksEntry face second ≡ not (someEntry second (left ∷ right ∷ []))) where
+  by-columns :
+      (interface : Interface) (second : ℕ) (once again : Bool) → once ≡ hasEntry second left → again ≡ hasEntry second right → interface ≡ face
       → not (once || again) ≡ lacksEntry interface second
-  unfolding lacksEntry
-  of-525 first next is = rw (is, ← first, ← next) (ap not (last-column once again))
-
-  of-625 :
-      once ≡ hasEntry second (columnOf 0 6 22) → again ≡ hasEntry second (columnOf 1 6 20) → interface ≡ Lines625
-      → not (once || again) ≡ lacksEntry interface second
-  unfolding lacksEntry
-  of-625 first next is = rw (is, ← first, ← next) (ap not (last-column once again))
+  by-columns interface second once again first next is = rw (is, says second, ← first, ← next) (ap not (last-column once again))
 
 not-looked-at : (interface : Interface) (second : ℕ) → interface ≡ HighDefinition → false ≡ lacksEntry interface second
 unfolding lacksEntry
@@ -55,10 +50,12 @@ enum-told-3 : tie.Need-enum-told-3
 enum-told-3 c = search needs
 
 returns : tie.Need-returns
-returns c = search of-525
+unfolding lacksEntry
+returns c = search (by-columns Lines525 (columnOf 0 10 20) (columnOf 1 10 18) (λ second. refl))
 
 returns-2 : tie.Need-returns-2
-returns-2 c = search of-625
+unfolding lacksEntry
+returns-2 c = search (by-columns Lines625 (columnOf 0 6 22) (columnOf 1 6 20) (λ second. refl))
 
 returns-3 : tie.Need-returns-3
 returns-3 c = search not-looked-at
