@@ -3,7 +3,7 @@
 //
 // text       text as it is
 // numbers    numbers in decimal
-// records    fields that are bytes, an address, a record, and what was found beside it
+// records    fields that are bytes, a picture, a record, and what was found beside it
 // elements   the elements of a run
 mod elements;
 mod numbers;
@@ -16,8 +16,8 @@ pub use numbers::put_digits;
 pub use numbers::put_number;
 pub use numbers::put_refused;
 pub use numbers::put_signed;
-pub use records::put_address;
 pub use records::put_byte;
+pub use records::put_picture;
 pub use records::put_read;
 pub use records::put_record;
 pub use text::put;

@@ -1,11 +1,11 @@
-// Fields that are bytes, an address, a record, and what was found beside it.
+// Fields that are bytes, a picture, a record, and what was found beside it.
 ghost use Prim.Native.Nat.{_≤_};
 ghost use lib.ListN.{length};
 ghost use Rattle.answers.specs.Places.{Onward};
 use crate::numbers::put_number;
 use crate::text::put_text;
+use pictures::Picture;
 use polarity::Found;
-use rates::Address;
 use rates::Flag;
 use record::Record;
 
@@ -25,12 +25,14 @@ fn put_bytes(out: &mut [u8], at: usize, bytes: &[u8]) -> usize
     next
 }
 
-pub fn put_address(out: &mut [u8], address: Address) -> usize
+// `address H M S F P`.
+pub fn put_picture(out: &mut [u8], picture: Picture) -> usize
     ensures { λ r. ⌜ r ≤ length (now (out .entry)) ⌝ }
 {
     let next = put_text(out, 0, b"address");
-    let frames = address.frames;
-    let fields = [address.hours, address.minutes, address.seconds, frames.0];
+    let a = picture.address;
+    let frames = a.frames;
+    let fields = [a.hours, a.minutes, a.seconds, frames.0, picture.place];
     put_bytes(out, next, &fields)
 }
 
@@ -41,8 +43,8 @@ fn bit(flag: Flag) -> u8 {
     }
 }
 
-// RECORD: `H M S F drop colour mark bgf0 bgf1 bgf2 G1 .. G8`.
-fn fields_of(r: Record) -> [u8; 18] {
+// RECORD: `H M S F drop colour mark bgf0 bgf1 bgf2 G1 .. G8 P`.
+fn fields_of(r: Record) -> [u8; 19] {
     let a = r.address;
     let f = r.flags;
     let g = r.groups;
@@ -72,6 +74,7 @@ fn fields_of(r: Record) -> [u8; 18] {
         g.group6,
         g.group7,
         g.group8,
+        r.place,
     ]
 }
 

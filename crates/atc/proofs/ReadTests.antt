@@ -13,14 +13,15 @@ use Rattle.refusals.proofs.Answered.{Clear}
 use Rattle.refusals.proofs.ByNumber.{rowsBefore, clear-whole}
 use Rattle.refusals.proofs.Verdicts.{refused-by, sound-clear}
 use Rattle.record.specs.declared.types.Unpacked.{Unpacked}
-use Rattle.modes.specs.Calls.{unpackedIn}
+use Rattle.modes.specs.declared.types.Shows.{Shows}
+use Rattle.modes.specs.Shown.{shownIn}
 use Rattle.words.specs.Words.{infoIn, byteIn}
 use Rattle.packets.specs.Packet.{typeIn, secondIn}
 use Rattle.packets.specs.Calls.{formRefusals}
 use Rattle.atc.specs.declared.types.Interface.{Interface}
 use Rattle.atc.specs.declared.types.Packet.{Packet}
 use Rattle.atc.specs.declared.types.Packet.the-variants.{Refused as Unread}
-use Rattle.atc.specs.Calls.{payloadRefusals, readRefusals, packetAs, readOf}
+use Rattle.atc.specs.Calls.{payloadRefusals, readRefusals, showsBy, packetAs, readOf}
 use Rattle.atc.proofs.Answers.{size, past-the-form, past-the-payload}
 
 module _ (mode : ℕ) (interface : Interface) (words : List ℕ) (found : Verdict) (judged : found ≡ verdictOf (formRefusals mode words)) where
@@ -48,9 +49,10 @@ module _ (mode : ℕ) (interface : Interface) (words : List ℕ) (found : Verdic
           refused-by Unread _ (payloadRefusals interface (typeIn words) (secondIn words)) carried of-words n e
           ∙ sym (past-the-form mode interface words clear)
 
-      module _ (fit : carried ≡ Sound) (info : ℕ) (gathered : info ≡ infoIn (take 16 (drop 6 words))) (unpacked : Unpacked) (said : unpacked ≡ unpackedIn mode info) where
+      module _ (fit : carried ≡ Sound) (info : ℕ) (gathered : info ≡ infoIn (take 16 (drop 6 words))) (shows : Shows)
+          (by : shows ≡ showsBy type) (unpacked : Unpacked) (said : unpacked ≡ shownIn mode shows info) where
         pub held : (packet : Packet) → packet ≡ packetAs type second unpacked → packet ≡ readOf mode interface words
         held packet e =
             let before = rowsBefore outside-the-clock (readRefusals mode interface words) in
             let fits = sound-clear Unread (Unread 0) (payloadRefusals interface (typeIn words) (secondIn words)) carried of-words fit in
-            e ∙ rw (said, gathered, typed, next) (sym (past-the-payload mode interface words (clear-whole unknown-type before clear fits)))
+            e ∙ rw (said, by, gathered, typed, next) (sym (past-the-payload mode interface words (clear-whole unknown-type before clear fits)))

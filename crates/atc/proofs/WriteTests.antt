@@ -1,10 +1,10 @@
 -- What each test of a write leads to: its answer, and the run as it leaves it.
 -- Assumes nothing.
 use mathlib.Core.Path.{_≡_, refl, sym, _∙_}
-use mathlib.Core.Bool.{true, false}
+use mathlib.Core.Bool.{Bool, true, false}
 use Prim.Native.Nat.{ℕ}
 use mathlib.Core.List.{List}
-use Rattle.refusals.specs.Table.{unknown-mode, outside-the-clock, no-room}
+use Rattle.refusals.specs.Table.{unknown-mode, outside-the-clock, mark-set, no-room}
 use Rattle.refusals.specs.declared.types.Verdict.the-variants.{Sound, Refused as Unsound}
 use Rattle.refusals.specs.Answer.{Refusal, answer, verdictOf}
 use Rattle.refusals.proofs.Answered.{Clear, otherwise-accepted}
@@ -18,10 +18,12 @@ use Rattle.record.specs.declared.types.Record.{Record}
 use Rattle.record.specs.declared.types.Packed.the-variants.{Bits, Refused as Unpackable}
 use Rattle.modes.specs.Modes.{unknown, withMode}
 use Rattle.modes.specs.Calls.{writeRefusalsIn, packedIn}
+use Rattle.modes.specs.declared.types.Shows.{Shows}
+use Rattle.modes.specs.Shown.{unshown}
 use Rattle.modes.proofs.Told.{refused-as, packed-is}
 use Rattle.packets.specs.Packet.{packetWith}
 use Rattle.atc.specs.declared.types.Interface.{Interface}
-use Rattle.atc.specs.Calls.{payloadRefusals, packetOf, writtenRows, writtenOf, runOf}
+use Rattle.atc.specs.Calls.{payloadRefusals, showsBy, packetOf, writtenRows, writtenOf, runOf}
 
 -- what a call promised of its answer, once the answer is looked at
 pub told : {A : Type 0} (given promised found : A) → given ≡ promised → given ≡ found → promised ≡ found
@@ -72,17 +74,28 @@ module _ (mode : ℕ) (interface : Interface) (r : Record) (type second start : 
         own : Clear (writeRefusalsIn mode r)
         own = clear-from outside-the-clock (withMode mode (writeRefusalsIn mode r)) (packed-is mode r info e .0)
 
-        -- the packet was placed, or there was no room for it: what came back is what the write answers
-        pub placed : (answered : Written) (left : List ℕ)
-            → (answered ≡ writtenBy (roomRefusals 23 start run)) × (left ≡ runAfter (roomRefusals 23 start run) start (packetWith info type second) run)
-            → Outcome answered left
-        unfolding writtenOf runOf
-        placed answered left told =
-            let before = rowsBefore no-room rows in
-            let clear : Clear before = clear-whole outside-the-clock before front own in
-            let word = packetOf mode r type second in (
-              told .0 ∙ sym (otherwise-accepted Unwritten (writtenBy (roomRefusals 23 start run)) before clear),
-              told .1
-                  ∙ rw (← packed-is mode r info e .1)
-                  (sym (otherwise-accepted (λ (k : ℕ). run) (runAfter (roomRefusals 23 start run) start word run) before clear)),
-            )
+        module _ (shows : Shows) (by : shows ≡ showsBy type) (other : Bool) (asked : other ≡ unshown mode shows r) where
+          shown : unshown mode (showsBy type) r ≡ other
+          shown = rw (← by) (sym asked)
+
+          before-the-mark : Clear (rowsBefore mark-set rows)
+          before-the-mark = clear-whole outside-the-clock (rowsBefore mark-set rows) front own
+
+          pub another-picture : other ≡ true → Outcome (Unwritten 11) run
+          unfolding writtenOf runOf
+          another-picture t = turned-away rows start (packetOf mode r type second) run mark-set before-the-mark (shown ∙ t)
+
+          -- the packet was placed, or there was no room for it: what came back is what the write answers
+          pub placed : other ≡ false → (answered : Written) (left : List ℕ)
+              → (answered ≡ writtenBy (roomRefusals 23 start run)) × (left ≡ runAfter (roomRefusals 23 start run) start (packetWith info type second) run)
+              → Outcome answered left
+          unfolding writtenOf runOf
+          placed t answered left told =
+              let before = rowsBefore no-room rows in
+              let clear : Clear before = clear-whole mark-set before before-the-mark (shown ∙ t, tt) in
+              let word = packetOf mode r type second in (
+                told .0 ∙ sym (otherwise-accepted Unwritten (writtenBy (roomRefusals 23 start run)) before clear),
+                told .1
+                    ∙ rw (← packed-is mode r info e .1)
+                    (sym (otherwise-accepted (λ (k : ℕ). run) (runAfter (roomRefusals 23 start run) start word run) before clear)),
+              )

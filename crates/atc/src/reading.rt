@@ -66,6 +66,7 @@ pub fn read(mode: u8, interface: Interface, words: &[u16]) -> Packet
     if let Verdict::Refused(number) = carried {
         return Packet::Refused(number);
     }
-    let unpacked = modes::from_bits(mode, info_in(&words[6..22]));
+    let shows = payload::shows_by(payload_type);
+    let unpacked = modes::picture_from_bits(mode, shows, info_in(&words[6..22]));
     packet_as(payload_type, second, unpacked)
 }

@@ -30,6 +30,11 @@ pub fn write(
     let packed = modes::to_bits(mode, r);
     match packed {
         Packed::Refused(number) => Written::Refused(number),
-        Packed::Bits(info) => packets::place(info, payload_type, second, start, run),
+        Packed::Bits(info) => {
+            if modes::is_unshown(mode, payload::shows_by(payload_type), r) {
+                return Written::Refused(refusals::MARK_SET);
+            }
+            packets::place(info, payload_type, second, start, run)
+        }
     }
 }

@@ -26,7 +26,7 @@ pub fn number_of(rate: Rate, drop: Flag, address: Address) -> Numbered
 pub fn distance(rate: Rate, drop: Flag, from: Address, to: Address) -> Span
     ensures { λ r. ⌜ r ≡ spanOf rate drop from to ⌝ }
 {
-    let found = judge_two(rate, drop, from, to);
+    let found = judge_two(rate, drop, from, to, false, false);
     match found {
         Verdict::Refused(number) => Span::Refused(number),
         Verdict::Sound => {

@@ -9,26 +9,28 @@ use Rattle.clock_requests.specs.declared.types.Told.the-variants.{Number
 abbrev pub numberTold : Told → Bool
 numberTold (Number n) = true
 numberTold (Frames n) = false
-numberTold (At a) = false
+numberTold (At p) = false
 numberTold (Refused n) = true
 
 abbrev pub spanTold : Told → Bool
 spanTold (Number n) = false
 spanTold (Frames n) = true
-spanTold (At a) = false
+spanTold (At p) = false
 spanTold (Refused n) = true
 
-abbrev pub placeTold : Told → Bool
-placeTold (Number n) = false
-placeTold (Frames n) = false
-placeTold (At a) = true
-placeTold (Refused n) = true
+abbrev pub pictureTold : Told → Bool
+pictureTold (Number n) = false
+pictureTold (Frames n) = false
+pictureTold (At p) = true
+pictureTold (Refused n) = true
 
 abbrev pub mayTell : Call → Told → Bool
 mayTell call.Number = numberTold
-mayTell call.Address = placeTold
+mayTell call.Address = pictureTold
 mayTell call.Distance = spanTold
-mayTell call.Add = placeTold
-mayTell call.Fields = placeTold
-mayTell call.KindNumber = placeTold
-mayTell call.KindFields = placeTold
+mayTell call.Add = pictureTold
+mayTell call.Fields = pictureTold
+mayTell call.KindNumber = pictureTold
+mayTell call.KindFields = pictureTold
+mayTell call.PairNumber = pictureTold
+mayTell call.PairFields = pictureTold

@@ -5,8 +5,8 @@ use crate::calling::told_for;
 use crate::types::Call;
 use crate::types::Request;
 use crate::types::Told;
-use answers::put_address;
 use answers::put_number;
+use answers::put_picture;
 use answers::put_refused;
 use answers::put_signed;
 use answers::put_text;
@@ -38,17 +38,24 @@ fn request_named(name: &[u8]) -> Request {
     if is_same(name, b"kind-fields") {
         return Request::For(Call::KindFields);
     }
+    if is_same(name, b"pair-number") {
+        return Request::For(Call::PairNumber);
+    }
+    if is_same(name, b"pair-fields") {
+        return Request::For(Call::PairFields);
+    }
     Request::Another
 }
 
 fn take_fields(call: Call, line: &[u8], cursor: usize, n: &mut Numbers) -> bool {
     match call {
-        Call::Number | Call::Fields => take_numbers(line, cursor, b"bfbbbb", n),
+        Call::Number | Call::Fields => take_numbers(line, cursor, b"bfbbbbb", n),
         Call::Address => take_numbers(line, cursor, b"bfn", n),
-        Call::Distance => take_numbers(line, cursor, b"bfbbbbbbbb", n),
-        Call::Add => take_numbers(line, cursor, b"bfbbbbc", n),
-        Call::KindNumber => take_numbers(line, cursor, b"kn", n),
+        Call::Distance => take_numbers(line, cursor, b"bfbbbbbbbbbb", n),
+        Call::Add => take_numbers(line, cursor, b"bfbbbbbc", n),
+        Call::KindNumber | Call::PairNumber => take_numbers(line, cursor, b"kn", n),
         Call::KindFields => take_numbers(line, cursor, b"kbbbb", n),
+        Call::PairFields => take_numbers(line, cursor, b"kbbbbb", n),
     }
 }
 
@@ -64,7 +71,7 @@ fn put_told(out: &mut [u8], told: Told) -> usize
             let next = put_text(out, 0, b"distance");
             put_signed(out, next, frames)
         }
-        Told::At(address) => put_address(out, address),
+        Told::At(picture) => put_picture(out, picture),
         Told::Refused(number) => put_refused(out, number),
     }
 }

@@ -1,8 +1,8 @@
-// Requests for the clock: `number`, `address`, `distance`, `add`, `fields`, `kind-number`, `kind-fields`.
+// Requests for the clock: `number`, `address`, `distance`, `add`, `fields`, `kind-number`, `kind-fields`, `pair-number`, `pair-fields`.
 //
 // types      what is asked for, and what is told
 // answering  which request a line is, and its answer
-// calling    the calls of the clock by mode, and the constructors of its four kinds
+// calling    the calls of the clock by mode, and the constructors of its kinds
 mod answering;
 mod calling;
 mod types;

@@ -1,5 +1,5 @@
 // What is asked for, and what is told.
-use rates::Address;
+use pictures::Picture;
 
 pub enum Call {
     Number,
@@ -9,6 +9,8 @@ pub enum Call {
     Fields,
     KindNumber,
     KindFields,
+    PairNumber,
+    PairFields,
 }
 
 pub enum Request {
@@ -20,6 +22,6 @@ pub enum Request {
 pub enum Told {
     Number(u64),
     Frames(i32),
-    At(Address),
+    At(Picture),
     Refused(u8),
 }

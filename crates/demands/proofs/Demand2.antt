@@ -1,11 +1,12 @@
 -- Demand 2. "Words on the linear track, vertical interval lines and ancillary packets mean what ITU-R BT.1366-3 says, read or written, in the house
 -- choices of document 01. Frame numbers of a day and addresses match one to one, drop-frame or not; an address is turned away exactly when the clock,
--- stepped from midnight by the standard's rule, never shows it."
+-- stepped from midnight by the standard's rule, never shows it." By document 02, A4: "State once, for any number of pictures to an address, that numbers and addresses match
+-- one to one; demand 2 reads so from here."
 -- What the elements mean is in the definitions of the carriers; that what is carried, read or written, matches one to one is here.
 -- Assumes nothing.
-use Prim.Native.Nat.{ℕ, _+_, _<_, _≤_}
+use Prim.Native.Nat.{ℕ, _+_, _/_, _%_, _<_, _≤_}
 use mathlib.Core.Path.{_≡_, refl, sym, ap, _∙_}
-use mathlib.Core.Bool.{Bool, true, false, cond}
+use mathlib.Core.Bool.{Bool, true, false, not, _&&_, cond}
 use mathlib.Core.List.{List}
 use mathlib.Core.Logic.{_↔_, _⊎_}
 use native.Mathlib.Omega.{arith}
@@ -18,18 +19,24 @@ use Rattle.runs.specs.Run.{placed}
 use Rattle.runs.proofs.Parts.{read-back}
 use Rattle.rates.specs.declared.types.Flag.{Flag}
 use Rattle.rates.specs.declared.types.Flag.the-variants.{No, Yes}
-use Rattle.rates.specs.declared.types.Address.{Address}
+use Rattle.rates.specs.declared.types.Rate.{Rate}
 use Rattle.clock.specs.declared.types.DayFrame.{DayFrame}
 use Rattle.clock.specs.declared.types.Numbered.the-variants.{Number, Refused as Unnumbered}
-use Rattle.clock.specs.declared.types.Placed.the-variants.{At}
+use Rattle.pictures.specs.declared.types.Picture.{Picture}
+use Rattle.pictures.specs.declared.types.Pictured.the-variants.{At}
+use Rattle.pictures.specs.Pictures.{picture, picturesInDay}
+use Rattle.pictures.specs.Steps.{pictureShown}
+use Rattle.pictures.specs.Calls.{numberOf, pictureOf}
+use Rattle.pictures.proofs.Shown.{picture-shown}
+use Rattle.pictures.proofs.Answers as any
 use Rattle.record.specs.declared.types.Record.{Record}
 use Rattle.midnight.specs.Steps.{shown}
-use Rattle.midnight.proofs.Answers.{address-is-shown, refused-exactly}
-use Rattle.rates.specs.Rates.{isYes, framesInSecond, framesInDay}
-use Rattle.modes.specs.Modes.{unknown, rateAt}
+use Rattle.rates.specs.Rates.{isYes, framesInSecond, mayDrop}
 use Rattle.record.specs.Record.{marked}
-use Rattle.modes.specs.Calls.{numberIn, addressIn, informationIn}
-use Rattle.modes.proofs.Clocked.{number-at-rate, address-at-rate}
+use Rattle.modes.specs.Modes.{unknown, rateAt, picturesAt}
+use Rattle.modes.specs.Calls.{numberIn, pictureIn, informationIn}
+use Rattle.modes.proofs.EachMode.{some-picture}
+use Rattle.modes.proofs.Counted.{number-by-row, picture-by-row}
 use Rattle.trips.proofs.Numbers.{one-to-one}
 use Rattle.polarity.specs.declared.types.Found.{Found}
 use Rattle.polarity.specs.declared.types.Found.the-variants.{Corrected, Uncorrected}
@@ -50,31 +57,62 @@ use Rattle.atc.specs.Calls.{packetOf, writtenOf, runOf, readOf as packetRead}
 use Rattle.trips.proofs.Packets as atc
 use Rattle.trips.proofs.Nineteen.{read-refused-by-19, written-refused-by-19}
 use Rattle.demands.specs.Modes.{CountingMode}
-use Rattle.demands.specs.Records.{Acceptable}
+use Rattle.demands.specs.Records.{Acceptable, MarkSays}
 use Rattle.demands.specs.Table4.{ClaimsImpossibleLine}
 use Rattle.demands.specs.Carriers.{Carrier, linear, withBit, bitFor, FoundAsMade, interval, ancillary, only, Accepting, Reading, Matches}
 use Rattle.demands.proofs.Demand1.{linear-room, interval-room, ancillary-room}
 use Rattle.demands.proofs.Accepted.{known, allowed, acceptable-exactly}
+use Rattle.demands.proofs.Pictures.{mark-says-exactly, packet-shows-exactly}
 use Rattle.demands.proofs.LineNumbers.{impossible-exactly, possible, payload-exactly}
 
--- "Frame numbers of a day and addresses match one to one, drop-frame or not": of `modes::number_of` and `modes::address_of`, in every mode.
+-- For every N above 0 and every rate: n pictures after midnight show the address that the clock shows n / N steps after midnight, and the place n % N. Shut out: places
+-- counted down.
+pub pictures-after-midnight :
+    (rate : Rate) (pictures : ℕ) (drop : Bool) → 0 < pictures → (n : ℕ)
+    → pictureShown (framesInSecond rate) pictures drop n ≡ picture (shown (framesInSecond rate) drop (n / pictures)) (n % pictures)
+pictures-after-midnight rate pictures drop some = picture-shown (framesInSecond rate) pictures drop some
+
+-- "State once, for any number of pictures to an address, that numbers and addresses match one to one": picture numbers below N times the day and pictures that are shown; and
+-- a picture is turned away exactly where no number of steps, picture by picture, shows it. Of `pictures::number_of` and `pictures::picture_of`, whatever the rate.
+module _ (rate : Rate) (pictures : ℕ) (drop : Flag) (some : 0 < pictures) where
+  pub numbers-and-pictures : (p : Picture) (n : DayFrame) → (numberOf rate pictures drop p ≡ Number n) ↔ (pictureOf rate pictures drop n ≡ At p)
+  numbers-and-pictures = any.one-to-one rate pictures drop some
+
+  module _ (may : (isYes drop && not (mayDrop rate)) ≡ false) where
+    pub every-picture-number : (n : ℕ) → n < picturesInDay rate pictures (isYes drop)
+        → pictureOf rate pictures drop (record { 0 = n }) ≡ At (pictureShown (framesInSecond rate) pictures (isYes drop) n)
+    every-picture-number = any.picture-is-shown rate pictures drop some may
+
+    pub picture-turned-away-exactly :
+        (p : Picture)
+        → ((numberOf rate pictures drop p ≡ Unnumbered 8)
+        ⊎ ((numberOf rate pictures drop p ≡ Unnumbered 9) ⊎ ((numberOf rate pictures drop p ≡ Unnumbered 10) × (pictures ≡ 1) × (0 < p .place))))
+        ↔ ((n : ℕ) → pictureShown (framesInSecond rate) pictures (isYes drop) n ≡ p → ⊥)
+    picture-turned-away-exactly = any.refused-exactly rate pictures drop some may
+
+-- "Frame numbers of a day and addresses match one to one, drop-frame or not": of `modes::number_of` and `modes::picture_of`, in every mode.
 pub numbers-and-addresses :
-    (mode : ℕ) (drop : Flag) (a : Address) (n : DayFrame) → (numberIn mode drop a ≡ Number n) ↔ (addressIn mode drop n ≡ At a)
+    (mode : ℕ) (drop : Flag) (p : Picture) (n : DayFrame) → (numberIn mode drop p ≡ Number n) ↔ (pictureIn mode drop n ≡ At p)
 numbers-and-addresses = one-to-one
 
 module _ {mode : ℕ} {drop : Flag} (counts : CountingMode mode drop) where
-  -- every number below the day's count has an address: the one that the clock shows so many steps after midnight. Shut out: drop-frame that skips
-  -- pictures rather than numbers, and calls that refuse every number.
-  pub every-number : (n : ℕ) → n < framesInDay (rateAt mode) (isYes drop)
-      → addressIn mode drop (record { 0 = n }) ≡ At (shown (framesInSecond (rateAt mode)) (isYes drop) n)
-  every-number n low = address-at-rate mode drop (record { 0 = n }) (known counts) ∙ address-is-shown (rateAt mode) drop (allowed counts) n low
+  -- every number below the day's count has a picture: the one that the clock shows so many pictures after midnight. Shut out: drop-frame that skips pictures rather
+  -- than numbers, and calls that refuse every number.
+  pub every-number : (n : ℕ) → n < picturesInDay (rateAt mode) (picturesAt mode) (isYes drop)
+      → pictureIn mode drop (record { 0 = n }) ≡ At (pictureShown (framesInSecond (rateAt mode)) (picturesAt mode) (isYes drop) n)
+  every-number n low =
+      picture-by-row mode drop (record { 0 = n }) (known counts)
+      ∙ every-picture-number (rateAt mode) (picturesAt mode) drop (some-picture mode) (allowed counts) n low
 
-  -- "an address is turned away exactly when the clock, stepped from midnight by the standard's rule, never shows it". Shut out: drop-frame that skips at
-  -- every minute.
+  -- "an address is turned away exactly when the clock, stepped from midnight by the standard's rule, never shows it", of a picture: by 8 or 9, or by 10 where it would have its
+  -- address to itself and is not the first. Shut out: drop-frame that skips at every minute; a place that none of the pictures has taken for one; another number for it.
   pub turned-away-exactly :
-      (a : Address) → ((numberIn mode drop a ≡ Unnumbered 8) ⊎ (numberIn mode drop a ≡ Unnumbered 9))
-      ↔ ((n : ℕ) → shown (framesInSecond (rateAt mode)) (isYes drop) n ≡ a → ⊥)
-  turned-away-exactly a = rw (number-at-rate mode drop a (known counts)) (refused-exactly (rateAt mode) drop (allowed counts) a)
+      (p : Picture)
+      → ((numberIn mode drop p ≡ Unnumbered 8)
+      ⊎ ((numberIn mode drop p ≡ Unnumbered 9) ⊎ ((numberIn mode drop p ≡ Unnumbered 10) × (picturesAt mode ≡ 1) × (0 < p .place))))
+      ↔ ((n : ℕ) → pictureShown (framesInSecond (rateAt mode)) (picturesAt mode) (isYes drop) n ≡ p → ⊥)
+  turned-away-exactly p =
+      rw (number-by-row mode drop p (known counts)) (picture-turned-away-exactly (rateAt mode) (picturesAt mode) drop (some-picture mode) (allowed counts) p)
 
 -- what is known of a carrier: a done write had room; what it leaves reads as its content; what reads is written again, has the carrier's size and is taken; and
 -- what is taken has elements that read as it
@@ -150,12 +188,19 @@ linear-laws make =
       sized = λ mode r word reads. ltc.long mode word (ltc.read-clear mode r make word reads .0);
       taken =
           λ mode r word reads. (let again = ltc.written-of-read mode r make word reads in
-          ((acceptable-exactly mode r .0 (again .0 .0), again .0 .1), made-as-found make mode r word reads));
+          ((acceptable-exactly mode r .0 (again .0 .0), again .0 .1, again .0 .2), made-as-found make mode r word reads));
       elementsOf = λ mode r. wordOf mode r make;
       reads =
-          λ mode r ok. (let able : ltc.Acceptable mode r = (acceptable-exactly mode r .1 (ok .0 .0), ok .0 .1) in
+          λ mode r ok. (let able : ltc.Acceptable mode r = (acceptable-exactly mode r .1 (ok .0 .0), ok .0 .1, ok .0 .2) in
           rw (found-as-made make mode r able (ok .1)) at (ltc.read-of-written mode r able make));
     }
+
+-- a line can hold a record exactly where the record is acceptable and its mark says its picture
+line-exactly : (mode : ℕ) (r : Record) → vitc.Acceptable mode r ↔ (Acceptable mode r × MarkSays mode r)
+line-exactly mode r = (
+  λ able. (let ok = acceptable-exactly mode r .0 (able .0) in (ok, mark-says-exactly mode r ok .0 (able .1))),
+  λ ok. (acceptable-exactly mode r .1 (ok .0), mark-says-exactly mode r (ok .0) .1 (ok .1)),
+)
 
 interval-laws : Laws interval
 interval-laws =
@@ -164,9 +209,9 @@ interval-laws =
       done-reads = λ mode r start run room done. vitc.one-to-one mode r start run _ room .0 (done, refl);
       read-writes = λ mode r start run line room reads. vitc.read-writes mode r start run line room reads;
       sized = λ mode r line reads. vitc.reads mode r line .0 reads .0 .long;
-      taken = λ mode r line reads. acceptable-exactly mode r .0 (vitc.made-reads mode r line .1 reads .0);
+      taken = λ mode r line reads. line-exactly mode r .0 (vitc.made-reads mode r line .1 reads .0);
       elementsOf = lineOf;
-      reads = λ mode r ok. vitc.made-reads mode r (lineOf mode r) .0 (acceptable-exactly mode r .1 ok, refl);
+      reads = λ mode r ok. vitc.made-reads mode r (lineOf mode r) .0 (line-exactly mode r .1 ok, refl);
     }
 
 ancillary-laws : (interface : Interface) → Laws (ancillary interface)
@@ -184,11 +229,16 @@ ancillary-laws interface =
           λ mode c words reads.
           (let again = atc.written-of-read mode interface words (c .«record») (c .«payload_type») (c .second) reads in
           let fits = payload-exactly interface (c .«payload_type») (c .second) .0 (again .0 .1) in
-          (acceptable-exactly mode (c .«record») .0 (again .0 .0), fits .0, atc.read-sized mode interface words c reads .1, fits .1));
+          let able = acceptable-exactly mode (c .«record») .0 (again .0 .0) in
+          let shows = packet-shows-exactly mode (c .«record») able (c .«payload_type») .0 (again .0 .2) in
+          (able, fits .0, atc.read-sized mode interface words c reads .1, fits .1, shows));
       elementsOf = λ mode c. packetOf mode (c .«record») (c .«payload_type») (c .second);
       reads =
-          λ mode c ok. atc.read-of-written mode interface (c .«record») (c .«payload_type») (c .second)
-          (acceptable-exactly mode (c .«record») .1 (ok .0), payload-exactly interface (c .«payload_type») (c .second) .1 (ok .1, ok .3)) (ok .2);
+          λ mode c ok. atc.read-of-written mode interface (c .«record») (c .«payload_type») (c .second) (
+            acceptable-exactly mode (c .«record») .1 (ok .0),
+            payload-exactly interface (c .«payload_type») (c .second) .1 (ok .1, ok .3),
+            packet-shows-exactly mode (c .«record») (ok .0) (c .«payload_type») .1 (ok .4),
+          ) (ok .2);
     }
 
 -- "Words on the linear track, vertical interval lines and ancillary packets .. read or written". A write is done exactly where there is

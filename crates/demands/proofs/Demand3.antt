@@ -34,7 +34,7 @@ use Rattle.demands.proofs.Accepted.{acceptable-exactly}
 pub a-word-for-each :
     (make : Found) (mode : ℕ) (r : Record) → linear make .Accepts mode r → (word : CodeWord mode) × (word .says ≡ r) × (word .bits ≡ wordOf mode r make)
 a-word-for-each make mode r ok =
-    let read = read-of-written mode r (acceptable-exactly mode r .1 (ok .0), ok .1) make in
+    let read = read-of-written mode r (acceptable-exactly mode r .1 (ok .0), ok .1, ok .2) make in
     (record { bits = wordOf mode r make; says = r; found = foundIn (wordOf mode r make); accepted = read }, refl, refl)
 
 -- "Take a reader in any state that feeding can bring a fresh one to": reached by single steps over any elements, in a mode that is known; one that hears

@@ -1,15 +1,15 @@
--- The bars that document 01 marks P: one table, one claim, computed from the definitions that the calls promise.
+-- The bars that document 01 marks P, one table under one claim, and those of document 02, A4, another: computed from the definitions that the calls promise.
 -- Assumes nothing.
 use mathlib.Core.Path.{refl}
 use Rattle.bits.specs.Bits.{value, toBits, howMany}
 use Rattle.runs.specs.Run.{placed}
 use Rattle.round.specs.Round.{distanceOf}
-use Rattle.clock.specs.Counting.{countOf}
-use Rattle.clock.specs.Calls.{numberOf, addressOf, fieldsOf, spanOf}
+use Rattle.clock.specs.Counting.{countOf, addressAt}
+use Rattle.pictures.specs.Calls.{numberOf, pictureOf, fieldsOf, spanOf}
 use Rattle.layout.specs.Layout.{join, layout}
 use Rattle.record.specs.Record.{fieldsOf as fieldsOfRecord, infoOf}
-use Rattle.modes.specs.Modes.{unknown, rateAt}
-use Rattle.modes.specs.Calls.{numberIn, addressIn, fieldsIn, spanIn}
+use Rattle.modes.specs.Modes.{unknown, rateAt, picturesAt}
+use Rattle.modes.specs.Calls.{numberIn, pictureIn, fieldsIn, spanIn}
 use Rattle.polarity.specs.Word.{syncWord, oddZeros, wordOf}
 use Rattle.ltc.specs.Calls as ltc
 use Rattle.interval.specs.Line.{each, onesFrom, groups, payload, crcOf, lineWith}
@@ -18,8 +18,13 @@ use Rattle.words.specs.Words.{dataWord, dataWords, sum9}
 use Rattle.packets.specs.Packet.{header, checksumOf, frontOf, packetWith}
 use Rattle.atc.specs.Lines.{lacksEntry}
 use Rattle.atc.specs.Calls as atc
-use Rattle.demands.specs.Bars.{bars, onesAmong, packed, Rehearsed}
+use Rattle.demands.specs.Bars.{bars, pairBars, onesAmong, packed, Rehearsed}
 
 pub rehearsed : Rehearsed bars
-unfolding bars onesAmong packed numberIn addressIn fieldsIn spanIn numberOf addressOf fieldsOf spanOf value toBits howMany placed join layout fieldsOfRecord infoOf syncWord oddZeros wordOf each onesFrom groups payload crcOf lineWith vitc.lineOf dataWords dataWord sum9 header checksumOf frontOf packetWith countOf distanceOf ltc.runOf ltc.writtenRows lacksEntry atc.runOf unknown rateAt
+unfolding bars onesAmong packed numberIn pictureIn fieldsIn spanIn numberOf pictureOf fieldsOf spanOf value toBits howMany placed join layout fieldsOfRecord infoOf syncWord oddZeros wordOf each onesFrom groups payload crcOf lineWith vitc.lineOf dataWords dataWord sum9 header checksumOf frontOf packetWith countOf distanceOf ltc.runOf ltc.writtenRows lacksEntry atc.runOf unknown rateAt picturesAt
 rehearsed = refl
+
+-- and those of document 02, A4
+pub pairs-rehearsed : Rehearsed pairBars
+unfolding pairBars onesAmong numberIn pictureIn numberOf pictureOf countOf addressAt value toBits howMany placed join layout fieldsOfRecord infoOf each onesFrom groups payload crcOf lineWith vitc.lineOf dataWords dataWord sum9 header checksumOf frontOf packetWith lacksEntry atc.runOf unknown rateAt picturesAt
+pairs-rehearsed = refl

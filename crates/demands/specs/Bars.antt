@@ -1,4 +1,4 @@
--- The bars to rehearse: "Marked P: proved of the written definitions, as a single table under a single claim."
+-- The bars to rehearse: "Marked P: proved of the written definitions, as a single table under a single claim." And a second table, of document 02, A4, under the same claim.
 -- Assumes nothing.
 use Prim.Native.Nat.{ℕ, zero, suc}
 use mathlib.Core.Path.{_≡_}
@@ -8,27 +8,30 @@ use lib.Dec.{eqb}
 use lib.IntN.{ℤ, pos, negsuc}
 use lib.ListN.{take, drop, replicate}
 use Rattle.bits.specs.Bits.{value}
+use Rattle.rates.specs.declared.types.Flag.{Flag}
 use Rattle.rates.specs.declared.types.Flag.the-variants.{No, Yes}
 use Rattle.rates.specs.declared.types.Address.{Address}
 use Rattle.clock.specs.declared.types.Numbered.{Numbered}
 use Rattle.clock.specs.declared.types.Numbered.the-variants.{Number, Refused as Unnumbered}
-use Rattle.clock.specs.declared.types.Placed.{Placed}
-use Rattle.clock.specs.declared.types.Placed.the-variants.{At, Refused as Unplaced}
 use Rattle.clock.specs.declared.types.Span.{Span}
 use Rattle.clock.specs.declared.types.Span.the-variants.{Frames, Refused as Unmeasured}
 use Rattle.rates.specs.Face.{showing}
+use Rattle.pictures.specs.declared.types.Picture.{Picture}
+use Rattle.pictures.specs.declared.types.Pictured.{Pictured}
+use Rattle.pictures.specs.declared.types.Pictured.the-variants.{At, Refused as Unpictured}
+use Rattle.pictures.specs.Pictures.{picture}
 use Rattle.record.specs.declared.types.Record.{Record}
-use Rattle.modes.specs.Calls.{numberIn, addressIn, fieldsIn, spanIn}
+use Rattle.modes.specs.Calls.{numberIn, pictureIn, fieldsIn, spanIn}
 use Rattle.polarity.specs.declared.types.Found.the-variants.{Corrected}
 use Rattle.ltc.specs.Calls as ltc
 use Rattle.vitc.specs.Calls as vitc
 use Rattle.atc.specs.declared.types.Interface.the-variants.{HighDefinition}
 use Rattle.atc.specs.Calls as atc
 
--- what a call tells, whichever it is: a number, an address, a signed count of frames, the elements that a write leaves, or a refusal
+-- what a call tells, whichever it is: a number, a picture, a signed count, the elements that a write leaves, or a refusal
 pub data Told : Type 0 where
   number : ℕ → Told
-  address : Address → Told
+  shows : Picture → Told
   frames : ℤ → Told
   elements : List ℕ → Told
   refusedBy : ℕ → Told
@@ -37,9 +40,9 @@ abbrev ofNumbered : Numbered → Told
 ofNumbered (Number n) = number (n .0)
 ofNumbered (Unnumbered n) = refusedBy n
 
-abbrev ofPlaced : Placed → Told
-ofPlaced (At a) = address a
-ofPlaced (Unplaced n) = refusedBy n
+abbrev ofPictured : Pictured → Told
+ofPictured (At p) = shows p
+ofPictured (Unpictured n) = refusedBy n
 
 abbrev ofSpan : Span → Told
 ofSpan (Frames z) = frames z
@@ -54,19 +57,30 @@ infix 20 _is_
 abbrev _is_ : Told → Told → Bar
 t is m = record { told = t; must = m }
 
+-- an address where each has one picture
+abbrev alone : Address → Picture
+alone a = picture a 0
+
+-- in a mode, drop or not: the picture of a number, and the number of a picture
+abbrev ofNumber : ℕ → Flag → ℕ → Told
+ofNumber mode drop n = ofPictured (pictureIn mode drop (record { 0 = n }))
+
+abbrev numbered : ℕ → Flag → Picture → Told
+numbered mode drop p = ofNumbered (numberIn mode drop p)
+
 -- "30 drop": the number of an address, and the address of a number
 abbrev drop30 : Address → Told
-drop30 a = ofNumbered (numberIn 2 Yes a)
+drop30 a = numbered 2 Yes (alone a)
 
 abbrev drop30at : ℕ → Told
-drop30at n = ofPlaced (addressIn 2 Yes (record { 0 = n }))
+drop30at n = ofNumber 2 Yes n
 
 -- "25": an address from its fields, and the distance from one to another
 abbrev at25 : Address → Told
-at25 a = ofPlaced (fieldsIn 1 No a)
+at25 a = ofPictured (fieldsIn 1 No (alone a))
 
 abbrev from25 : Address → Address → Told
-from25 a b = ofSpan (spanIn 1 No a b)
+from25 a b = ofSpan (spanIn 1 No (alone a) (alone b))
 
 -- "10:01:00;02, groups and flags 0 but drop"
 abbrev theRecord : Record
@@ -75,6 +89,7 @@ theRecord =
       address = showing 10 1 0 2;
       flags = record { drop = Yes; colour = No; mark = No; bgf0 = No; bgf1 = No; bgf2 = No };
       groups = record { group1 = 0; group2 = 0; group3 = 0; group4 = 0; group5 = 0; group6 = 0; group7 = 0; group8 = 0 };
+      place = 0;
     }
 
 -- what a write of it leaves in a lent run of zeros: as LTC, corrected, on VITC, as ATC type 1, second byte 0 (on a high definition interface: by A9 the others
@@ -115,7 +130,7 @@ bars =
     ∷ (drop30 (showing 23 59 59 29) is number 2589407)
     ∷ (drop30at 2589408 is refusedBy 14)
     -- 25: frame 24 accepted, 25 refused by 8. Hour 24 refused by 8
-    ∷ (at25 (showing 0 0 0 24) is address (showing 0 0 0 24))
+    ∷ (at25 (showing 0 0 0 24) is shows (alone (showing 0 0 0 24)))
     ∷ (at25 (showing 0 0 0 25) is refusedBy 8)
     ∷ (at25 (showing 24 0 0 0) is refusedBy 8)
     -- From 23:59:59:24 to 00:00:00:00 at 25 is +1; the other way is -1
@@ -137,3 +152,43 @@ bars =
 -- the one claim: each tells what it must
 abbrev pub Rehearsed : List Bar → Type 0
 Rehearsed table = map (λ (bar : Bar). bar .told) table ≡ map (λ (bar : Bar). bar .must) table
+
+-- Document 02, A4: "Day counts are double those in document 01; 59.94 drop has 5,178,816", and what goes with it: the last picture of a day in a mode and the first
+-- number that is refused; the 60 pictures of a second; the step over the skipped numbers of 59.94 drop; drop where it may not be asked for; a field outside the clock; a
+-- place that none of a pair has, and a place where there are no pairs; and the second picture of 00:00:00:00 on a line at 50, where the mark is information bit 59, and in a
+-- packet of type 2 at 60
+abbrev secondPicture : Record
+secondPicture =
+    record {
+      address = showing 0 0 0 0;
+      flags = record { drop = No; colour = No; mark = Yes; bgf0 = No; bgf1 = No; bgf2 = No };
+      groups = record { group1 = 0; group2 = 0; group3 = 0; group4 = 0; group5 = 0; group6 = 0; group7 = 0; group8 = 0 };
+      place = 1;
+    }
+
+unfoldable pub pairBars : List Bar
+pairBars =
+    (ofNumber 3 No 4147199 is shows (picture (showing 23 59 59 23) 1))
+    ∷ (ofNumber 3 No 4147200 is refusedBy 14)
+    ∷ (ofNumber 4 No 4319999 is shows (picture (showing 23 59 59 24) 1))
+    ∷ (ofNumber 4 No 4320000 is refusedBy 14)
+    ∷ (ofNumber 5 No 5183999 is shows (picture (showing 23 59 59 29) 1))
+    ∷ (ofNumber 5 No 5184000 is refusedBy 14)
+    ∷ (ofNumber 5 Yes 5178815 is shows (picture (showing 23 59 59 29) 1))
+    ∷ (ofNumber 5 Yes 5178816 is refusedBy 14)
+    ∷ (numbered 5 No (picture (showing 0 0 0 29) 1) is number 59)
+    ∷ (numbered 5 No (picture (showing 0 0 1 0) 0) is number 60)
+    ∷ (numbered 5 Yes (picture (showing 0 0 59 29) 1) is number 3599)
+    ∷ (numbered 5 Yes (picture (showing 0 1 0 2) 0) is number 3600)
+    ∷ (numbered 5 Yes (picture (showing 0 1 0 1) 1) is refusedBy 9)
+    ∷ (numbered 3 Yes (picture (showing 0 0 0 0) 0) is refusedBy 10)
+    ∷ (numbered 4 Yes (picture (showing 0 0 0 0) 0) is refusedBy 10)
+    ∷ (numbered 4 No (picture (showing 24 0 0 0) 0) is refusedBy 8)
+    ∷ (numbered 3 No (picture (showing 0 0 0 24) 1) is refusedBy 8)
+    ∷ (numbered 5 No (picture (showing 0 0 0 0) 2) is refusedBy 8)
+    ∷ (numbered 2 No (picture (showing 0 0 0 0) 1) is refusedBy 10)
+    ∷ (elements (onesAmong 0 (vitc.runOf 4 secondPicture 0 (replicate 90 0))) is elements (0 ∷ 10 ∷ 20 ∷ 30 ∷ 40 ∷ 50 ∷ 60 ∷ 70 ∷ 75 ∷ 80 ∷ 83 ∷ 88 ∷ []))
+    ∷ (elements (atc.runOf 5 HighDefinition secondPicture 2 0 0 (replicate 23 0)) is elements (
+    0x000 ∷ 0x3FF ∷ 0x3FF ∷ 0x260 ∷ 0x260 ∷ 0x110 ∷ 0x200 ∷ 0x108 ∷ 0x200 ∷ 0x200 ∷ 0x200 ∷ 0x200 ∷ 0x180 ∷ 0x200 ∷ 0x200 ∷ 0x200
+    ∷ 0x200 ∷ 0x200 ∷ 0x200 ∷ 0x200 ∷ 0x200 ∷ 0x200 ∷ 0x258 ∷ []))
+    ∷ []

@@ -25,7 +25,7 @@ use Rattle.atc.specs.declared.types.Interface.{Interface}
 use Rattle.atc.specs.declared.types.Contents.{Contents}
 use Rattle.atc.specs.Calls as atc
 use Rattle.atc.specs.declared.types.Packet.the-variants.{Holds as Carries}
-use Rattle.demands.specs.Records.{Acceptable}
+use Rattle.demands.specs.Records.{Acceptable, FirstPicture, MarkSays, PacketShows}
 use Rattle.demands.specs.Table4.{ClaimsImpossibleLine}
 
 -- What is needed of the bounds that the types of a carrier's calls set; what it takes, by mode; and what its calls promise: that a write of a content from a
@@ -39,13 +39,13 @@ pub record Carrier (Content : Type 0) : Type 1 where
   pub leaves : ℕ → Content → ℕ → List ℕ → List ℕ
   pub Reads : ℕ → List ℕ → Content → Type 0
 
--- 80 bits of a linear track, made and found corrected or uncorrected: `ltc::write` and `ltc::read`. The record's mark is no
+-- 80 bits of a linear track, made and found corrected or uncorrected: `ltc::write` and `ltc::read`. The record's mark is no, and it is of the first picture
 abbrev pub linear : Found → Carrier Record
 linear make =
     record {
       size = 80;
       Given = λ r. Unit {0};
-      Accepts = λ mode r. Acceptable mode r × (r .flags .mark ≡ No);
+      Accepts = λ mode r. Acceptable mode r × (r .flags .mark ≡ No) × FirstPicture r;
       Writes = λ mode r start run. ltc.writtenOf mode r start run ≡ Done;
       Refuses = λ mode r start run number. ltc.writtenOf mode r start run ≡ Refused number;
       leaves = λ mode r. ltc.runOf mode r make;
@@ -67,13 +67,13 @@ abbrev pub FoundAsMade : Found → ℕ → Record → Type 0
 FoundAsMade Corrected mode r = Unit {0}
 FoundAsMade Uncorrected mode r = oddZeros (withBit No mode r) ≡ true
 
--- 90 bits of a vertical interval line: `vitc::write` and `vitc::read`
+-- 90 bits of a vertical interval line: `vitc::write` and `vitc::read`. Of a pair, the mark says which picture
 abbrev pub interval : Carrier Record
 interval =
     record {
       size = 90;
       Given = λ r. Unit {0};
-      Accepts = λ mode r. Acceptable mode r;
+      Accepts = λ mode r. Acceptable mode r × MarkSays mode r;
       Writes = λ mode r start run. vitc.writtenOf mode r start run ≡ Done;
       Refuses = λ mode r start run number. vitc.writtenOf mode r start run ≡ Refused number;
       leaves = vitc.runOf;
@@ -81,7 +81,7 @@ interval =
     }
 
 -- 23 words of an ancillary packet on an interface: `atc::write` and `atc::read`. The payload type is up to 2, the second byte is a byte, and it claims no line
--- that can't be
+-- that can't be; and the picture is the one that a packet of the type shows
 abbrev pub ancillary : Interface → Carrier Contents
 ancillary interface =
     record {
@@ -89,7 +89,7 @@ ancillary interface =
       Given = λ c. c .second < 256;
       Accepts =
           λ mode c. Acceptable mode (c .«record») × (c .«payload_type» ≤ 2) × (c .second < 256)
-          × (ClaimsImpossibleLine interface (c .«payload_type») (c .second) → ⊥);
+          × (ClaimsImpossibleLine interface (c .«payload_type») (c .second) → ⊥) × PacketShows mode (c .«payload_type») (c .«record»);
       Writes = λ mode c start run. (c .second < 256) × (atc.writtenOf mode interface (c .«record») (c .«payload_type») (c .second) start run ≡ Done);
       Refuses = λ mode c start run number. atc.writtenOf mode interface (c .«record») (c .«payload_type») (c .second) start run ≡ Refused number;
       leaves = λ mode c. atc.runOf mode interface (c .«record») (c .«payload_type») (c .second);

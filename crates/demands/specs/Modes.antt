@@ -1,4 +1,4 @@
--- "Counting at 24, 25 and 30 frames, with drop-frame at 30": the rows of the table of counting modes.
+-- "Counting at 24, 25 and 30 frames, with drop-frame at 30", and document 02, A4: "Pairs: 48, 50, 59.94 and 60": the rows of the table of counting modes.
 -- Assumes nothing.
 use Prim.Native.Nat.{ℕ}
 use Rattle.rates.specs.declared.types.Flag.{Flag}
@@ -10,3 +10,7 @@ pub data CountingMode : ℕ → Flag → Type 0 where
   at25 : CountingMode 1 No
   at30 : CountingMode 2 No
   at30drop : CountingMode 2 Yes
+  at48 : CountingMode 3 No
+  at50 : CountingMode 4 No
+  at60 : CountingMode 5 No
+  at60drop : CountingMode 5 Yes

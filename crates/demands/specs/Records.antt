@@ -1,22 +1,39 @@
--- The records that can be carried: "hour, minute, second, frame" that the clock shows, no unused bit set, groups up to 15.
+-- The records that can be carried: "hour, minute, second, frame" that the clock shows, a picture of that address, no unused bit set, groups up to 15; and which picture a
+-- word, a line or a packet shows.
 -- Assumes nothing.
-use Prim.Native.Nat.{ℕ}
+use Prim.Native.Nat.{ℕ, _≤_}
 use mathlib.Core.Path.{_≡_}
 use mathlib.Core.Bool.{false}
+use mathlib.Core.Logic.{_⊎_}
 use Rattle.rates.specs.declared.types.Flag.the-variants.{No}
-use Rattle.midnight.specs.Steps.{shown}
 use Rattle.rates.specs.Rates.{isYes, framesInSecond}
+use Rattle.layout.specs.Flags.{bitOf}
+use Rattle.pictures.specs.Pictures.{picture}
+use Rattle.pictures.specs.Steps.{pictureShown}
 use Rattle.record.specs.declared.types.Record.{Record}
 use Rattle.record.specs.Record.{groupAbove15}
-use Rattle.modes.specs.Modes.{rateAt}
+use Rattle.modes.specs.Modes.{rateAt, picturesAt}
 use Rattle.demands.specs.Modes.{CountingMode}
 
 pub record Acceptable (mode : ℕ) (r : Record) : Type 0 where
   -- its mode and drop count
   pub counts : CountingMode mode (r .flags .drop)
-  -- the clock, so many steps from midnight, shows its address
+  -- the clock, so many pictures from midnight, shows its address at its place
   pub steps : ℕ
-  pub shows : shown (framesInSecond (rateAt mode)) (isYes (r .flags .drop)) steps ≡ r .address
-  -- the colour frame bit is unused at 24
-  pub colourless : mode ≡ 0 → r .flags .colour ≡ No
+  pub shows : pictureShown (framesInSecond (rateAt mode)) (picturesAt mode) (isYes (r .flags .drop)) steps ≡ picture (r .address) (r .place)
+  -- the colour frame bit is unused at 24, and so at 48
+  pub colourless : (mode ≡ 0) ⊎ (mode ≡ 3) → r .flags .colour ≡ No
   pub groups : groupAbove15 (r .groups) ≡ false
+
+-- "LTC has one word for each pair, .. which reads as its first picture": no other picture is carried there
+abbrev pub FirstPicture : Record → Type 0
+FirstPicture r = r .place ≡ 0
+
+-- "In VITC and ATC the mark is 0 on the first of a pair and 1 on the second": in modes 3 to 5 it says the place
+abbrev pub MarkSays : ℕ → Record → Type 0
+MarkSays mode r = 3 ≤ mode → r .place ≡ bitOf (r .flags .mark)
+
+-- "a packet of type 1 or 2" by its mark; "type 0 keeps the mark unread"
+pub record PacketShows (mode type : ℕ) (r : Record) : Type 0 where
+  pub first : type ≡ 0 → FirstPicture r
+  pub by-mark : (type ≡ 0 → ⊥) → MarkSays mode r

@@ -1,17 +1,19 @@
 // What the user demanded, as theorems over the definitions that the public calls promise. No code.
 //
-// specs/Modes        the four counting modes
-// specs/Records      the records that can be carried
+// specs/Modes        the counting modes, with drop or without
+// specs/Records      the records that can be carried, and which picture is shown
 // specs/Table4       the line numbers that a packet may claim, as the source prints them
 // specs/Carriers     what it is for a write to be done or refused, and for words and records to match one to one
-// specs/Bars         the bars that document 01 marks P, one table
+// specs/Bars         the bars that document 01 marks P, one table, and those of document 02, A4, another
 // proofs/Demand1     a write is done or refused, and one that is refused changes no element
-// proofs/Demand2     frame numbers and addresses; words, lines and packets, read or written
+// proofs/Demand2     numbers, addresses and pictures; words, lines and packets, read or written
 // proofs/Demand3     each code word is reported, as itself, at its 80th bit
 // proofs/Windows     what is heard in a window, exactly: forward, backward, complaints, and never both
 // proofs/Reverse     demand 3 of readers that hear both ways
-// proofs/Rehearsed   the bars, under one claim
+// proofs/Rehearsed   the bars, each table under one claim
 // proofs/Accepted    a record is clear of its refusals exactly where it is acceptable
+// proofs/Pictures    which picture a word, a line or a packet shows, in the request's words
+// proofs/Places      what a place is refused by, and a mark that does not say it
 // proofs/LineNumbers the line numbers that a packet may not claim are those that the printed table has no entry for
 //
 // What else demand 1 asks for is in the promises of the calls themselves: docs/PROMISES.md says where.

@@ -1,12 +1,13 @@
--- The constants of the four kinds: the table of frames in a second and in a day.
+-- The constants of the kinds: the table of frames in a second and in a day, and of pictures where two share an address.
 -- Assumes nothing.
-use Prim.Native.Nat.{ℕ}
+use Prim.Native.Nat.{ℕ, _*_}
 use mathlib.Core.List.{List, [], _∷_, _++_}
 use Rattle.rates.specs.declared.types.Flag.{Flag}
 use Rattle.rates.specs.declared.types.Flag.the-variants.{No, Yes}
 use Rattle.rates.specs.declared.types.Rate.{Rate}
 use Rattle.rates.specs.declared.types.Rate.the-variants.{At24, At25, At30}
 use Rattle.rates.specs.Rates.{isYes, framesInSecond, framesInDay}
+use Rattle.pictures.specs.Pictures.{picturesInDay}
 
 -- "Each counting mode is a kind with its own constants: frames in a second, frames in a day"
 abbrev pub constantsOf : Rate → Flag → List ℕ
@@ -15,3 +16,11 @@ constantsOf rate drop = framesInSecond rate ∷ framesInDay rate (isYes drop) �
 -- those of the table's rows: 24, 25, 30 and 30 drop
 abbrev pub kindConstants : List ℕ
 kindConstants = constantsOf At24 No ++ constantsOf At25 No ++ constantsOf At30 No ++ constantsOf At30 Yes
+
+-- Document 02, A4: "Highest frame within a second goes from 29 to 59 where pictures are counted", and "Day counts are double those in document 01": pictures in a second, and in a day
+abbrev pub pairConstantsOf : Rate → Flag → List ℕ
+pairConstantsOf rate drop = 2 * framesInSecond rate ∷ picturesInDay rate 2 (isYes drop) ∷ []
+
+-- those of 48, 50, 60 and 59.94 drop
+abbrev pub pairConstants : List ℕ
+pairConstants = pairConstantsOf At24 No ++ pairConstantsOf At25 No ++ pairConstantsOf At30 No ++ pairConstantsOf At30 Yes

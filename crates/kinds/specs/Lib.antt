@@ -1,2 +1,2 @@
--- Constants   the constants of the four kinds
+-- Constants   the constants of the kinds
 pub mod Constants

@@ -1,4 +1,4 @@
-// The four counting modes: each a kind with its own frames in a second and in a day, and two constructors of an address,
+// The four counting modes of document 01: each a kind with its own frames in a second and in a day, and two constructors of an address,
 // from a frame number of the day and from clock fields.
 ghost use mathlib.Core.Path.{_≡_};
 ghost use Rattle.rates.specs.declared.types.Flag.the-variants.{No, Yes};

@@ -7,7 +7,7 @@ use Prim.Native.Nat.{ℕ, _+_, _-_, _^_, _<_}
 use lib.ListN.{length}
 use borrow.Rule.Slice.PartMut.{putMid}
 use Rattle.refusals.specs.Table.{unknown-mode, outside-the-clock, mark-set, no-room}
-use Rattle.refusals.proofs.Answered.{Clear}
+use Rattle.refusals.proofs.Answered.{Clear, neither}
 use Rattle.refusals.proofs.ByNumber.{rowsBefore, clear-from, clear-whole}
 use Rattle.runs.specs.declared.types.Written.{Written}
 use Rattle.runs.specs.declared.types.Written.the-variants.{Done, Refused as Unwritten}
@@ -21,17 +21,16 @@ use Rattle.record.specs.declared.types.Packed.{Packed}
 use Rattle.record.specs.declared.types.Packed.the-variants.{Bits, Refused as Unpackable}
 use Rattle.layout.specs.Flags.{places}
 use Rattle.record.specs.Record.{marked}
-use Rattle.record.specs.Calls.{packedOf}
-use Rattle.record.proofs.Accepted.{Writable, writable}
+use Rattle.record.proofs.Accepted.{Writable}
 use Rattle.modes.specs.declared.types.Rated.{Rated}
 use Rattle.modes.specs.declared.types.Rated.the-variants.{Known, Refused as Unrated}
 use Rattle.modes.specs.Modes.{unknown, rateAt, withMode, ratedOf}
 use Rattle.modes.specs.Calls.{informationIn, writeRefusalsIn, packedIn}
 use Rattle.modes.proofs.Told.{refused-as, packed-is}
-use Rattle.modes.proofs.ByRate.{packs-at-rate, rate-told, rate-refused}
+use Rattle.modes.proofs.ByRate.{fits-of, rate-told, rate-refused}
 use Rattle.polarity.specs.declared.types.Found.{Found}
 use Rattle.polarity.specs.Word.{wordWith, made, wordOf}
-use Rattle.ltc.specs.Calls.{writtenRows, writtenOf, runOf}
+use Rattle.ltc.specs.Calls.{markOrSecond, writtenRows, writtenOf, runOf}
 use Rattle.ltc.proofs.Words.{word-length}
 use Rattle.ltc.proofs.Evened.{is-no, plain, set-adds, set-below}
 
@@ -44,18 +43,18 @@ module _ (mode start : ℕ) (r : Record) (make : Found) (run : List ℕ) (rated 
   no-mode n e =
       turned-away (writtenRows mode r start run) start (wordOf mode r make) run unknown-mode tt (rate-refused mode rated named n e .0)
 
-  module _ (rate : Rate) (is : rated ≡ Known rate) (found : Packed) (packs : found ≡ packedOf rate r) where
+  module _ (rate : Rate) (is : rated ≡ Known rate) (found : Packed) (packs : found ≡ packedIn mode r) where
     own : (unknown mode ≡ false) × (rateAt mode ≡ rate)
     own = rate-told mode rated named rate is
 
     told : packedIn mode r ≡ found
-    told = packs-at-rate mode r (own .0) ∙ ap (λ (k : Rate). packedOf k r) (own .1) ∙ sym packs
+    told = sym packs
 
     pub by-the-record : (n : ℕ) → found ≡ Unpackable n → Outcome (Unwritten n) run
     unfolding writtenOf runOf writtenRows
     by-the-record n e = (refused-as mode r Unwritten _ n (told ∙ e), refused-as mode r (λ (k : ℕ). run) _ n (told ∙ e))
 
-    module _ (n : ℕ) (e : found ≡ Bits n) (yes : Bool) (asked : yes ≡ isYes (r .flags .mark)) where
+    module _ (n : ℕ) (e : found ≡ Bits n) (yes : Bool) (asked : yes ≡ markOrSecond mode r) where
       packed : Clear (withMode mode (writeRefusalsIn mode r)) × (informationIn mode r ≡ n)
       packed = packed-is mode r n (told ∙ e)
 
@@ -65,10 +64,10 @@ module _ (mode start : ℕ) (r : Record) (make : Found) (run : List ℕ) (rated 
 
       module _ (t : yes ≡ false) where
         fits : Writable (r .address) (r .groups)
-        fits = writable (rateAt mode) r (clear-from outside-the-clock (withMode mode (writeRefusalsIn mode r)) (packed .0))
+        fits = fits-of mode r (clear-from outside-the-clock (withMode mode (writeRefusalsIn mode r)) (packed .0))
 
         unset : r .flags .mark ≡ No
-        unset = is-no (r .flags .mark) (sym asked ∙ t)
+        unset = is-no (r .flags .mark) (neither (isYes (r .flags .mark)) _ (sym asked ∙ t) .0)
 
         -- the polarity bit has its place free
         pub free : n + 2 ^ places rate .mark < 2 ^ 64

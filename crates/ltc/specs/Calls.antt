@@ -1,7 +1,7 @@
 -- What each call on linear words answers: its refusals in the table's order, and then what is accepted.
 -- Assumes nothing.
 use Prim.Native.Nat.{ℕ}
-use mathlib.Core.Bool.{not}
+use mathlib.Core.Bool.{Bool, not, _||_}
 use mathlib.Core.List.{List, [], _∷_, _++_}
 use lib.Dec.{eqb}
 use lib.ListN.{length, drop}
@@ -14,8 +14,10 @@ use Rattle.rates.specs.Rates.{isYes}
 use Rattle.record.specs.declared.types.Record.{Record}
 use Rattle.record.specs.Record.{marked}
 use Rattle.runs.specs.declared.types.Written.{Written}
+use Rattle.modes.specs.declared.types.Shows.the-variants.{First}
 use Rattle.modes.specs.Calls.{recordIn, bitsRefusalsIn, writeRefusalsIn}
 use Rattle.modes.specs.Modes.{unknown, rateAt, withMode}
+use Rattle.modes.specs.Shown.{unshown}
 use Rattle.polarity.specs.declared.types.Found.{Found}
 use Rattle.polarity.specs.declared.types.Word.{Word}
 use Rattle.polarity.specs.declared.types.Word.the-variants.{Holds, Refused}
@@ -32,15 +34,19 @@ readRefusals mode word =
     ∷ (wrong-check when miscorrected (rateAt mode) word)
     ∷ bitsRefusalsIn mode (infoIn word)
 
--- the record with mark 0, and what was found
+-- the record with mark 0, of the first picture, and what was found
 unfoldable pub readOf : ℕ → List ℕ → Word
 readOf mode word = answer Refused (readRefusals mode word) (Holds (marked No (recordIn mode (infoIn word))) (foundIn word))
 
--- writing: 2; 8, 9 and 10 of the record; 11 a mark; 12 no room for 80 elements from the start
+-- a mark, or (A4) "a second picture"
+abbrev pub markOrSecond : ℕ → Record → Bool
+markOrSecond mode r = isYes (r .flags .mark) || unshown mode First r
+
+-- writing: 2; 8, 9 and 10 of the record; 11 a mark or a second picture; 12 no room for 80 elements from the start
 unfoldable pub writtenRows : ℕ → Record → ℕ → List ℕ → List Refusal
 writtenRows mode r start run =
     withMode mode
-    (writeRefusalsIn mode r ++ ((mark-set when isYes (r .flags .mark)) ∷ (no-room when noRoom 80 start (length run)) ∷ []))
+    (writeRefusalsIn mode r ++ ((mark-set when markOrSecond mode r) ∷ (no-room when noRoom 80 start (length run)) ∷ []))
 
 unfoldable pub writtenOf : ℕ → Record → ℕ → List ℕ → Written
 writtenOf mode r start run = writtenBy (writtenRows mode r start run)

@@ -6,7 +6,5 @@ pub mod Skip
 pub mod Ways
 -- Shown      what the clock shows is the closed form; numbers and addresses match one to one
 pub mod Shown
--- Answers    the laws of the clock, said of what the calls answer
+-- Answers    where an address is clear of refusals the clock shows it
 pub mod Answers
--- Moves      the distance and the sum, said of what the calls answer
-pub mod Moves

@@ -1,4 +1,4 @@
--- "The lowest that applies is given": the calls by mode have one list each, 2 before what the rate refuses, and the list follows the table's order.
+-- "The lowest that applies is given": the calls by mode have one list each, 2 before what the row's own call refuses, and the list follows the table's order.
 -- Assumes nothing.
 use Prim.Native.Nat.{ℕ}
 use mathlib.Core.Path.{_≡_, refl}
@@ -7,64 +7,68 @@ use lib.IntN.{ℤ}
 use Rattle.refusals.specs.Table.{theOrder}
 use Rattle.refusals.specs.Answer.{answer, inOrder}
 use Rattle.rates.specs.declared.types.Flag.{Flag}
-use Rattle.rates.specs.declared.types.Address.{Address}
 use Rattle.clock.specs.declared.types.DayFrame.{DayFrame}
 use Rattle.clock.specs.declared.types.Numbered.the-variants.{Number, Refused as Unnumbered}
-use Rattle.clock.specs.declared.types.Placed.the-variants.{At, Refused as Unplaced}
 use Rattle.clock.specs.declared.types.Span.the-variants.{Frames, Refused as Unmeasured}
-use Rattle.rates.specs.Rates.{isYes, framesInSecond, framesInDay}
+use Rattle.rates.specs.Rates.{isYes, framesInSecond}
 use Rattle.round.specs.Round.{distanceOf, sumOf}
-use Rattle.clock.specs.Counting.{countOf, addressAt}
-use Rattle.rates.specs.Refused.{refusalsOf, refusalsOfTwo}
-use Rattle.clock.specs.Calls.{numberRefusals, numberOf, addressOf, fieldsOf, spanOf, plusOf}
+use Rattle.pictures.specs.declared.types.Picture.{Picture}
+use Rattle.pictures.specs.declared.types.Pictured.the-variants.{At, Refused as Unpictured}
+use Rattle.pictures.specs.Pictures.{picturesInDay, pictureNumber, pictureAt}
+use Rattle.pictures.specs.Calls.{pictureRefusals, twoRefusals, numberRefusals, numberOf, pictureOf, fieldsOf, spanOf, plusOf}
 use Rattle.record.specs.declared.types.Record.{Record}
-use Rattle.modes.specs.Modes.{rateAt, withMode}
-use Rattle.modes.specs.Calls.{numberIn, addressIn, fieldsIn, spanIn, plusIn, bitsRefusalsIn, writeRefusalsIn}
+use Rattle.modes.specs.Modes.{rateAt, picturesAt, withMode}
+use Rattle.modes.specs.Calls.{numberIn, pictureIn, fieldsIn, spanIn, plusIn, bitsRefusalsIn, writeRefusalsIn}
 
 module _ (mode : ℕ) (drop : Flag) where
-  abbrev number : Address → ℕ
-  number a = countOf (framesInSecond (rateAt mode)) (isYes drop) a
+  abbrev number : Picture → ℕ
+  number p = pictureNumber (framesInSecond (rateAt mode)) (picturesAt mode) (isYes drop) p
 
-  abbrev address : ℕ → Address
-  address n = addressAt (framesInSecond (rateAt mode)) (isYes drop) n
+  abbrev numbered : ℕ → Picture
+  numbered n = pictureAt (framesInSecond (rateAt mode)) (picturesAt mode) (isYes drop) n
 
   abbrev day : ℕ
-  day = framesInDay (rateAt mode) (isYes drop)
+  day = picturesInDay (rateAt mode) (picturesAt mode) (isYes drop)
 
-  -- the calls of the clock, each as one list
-  pub number-rows : (a : Address) → numberIn mode drop a ≡ answer Unnumbered (withMode mode (refusalsOf (rateAt mode) drop a)) (Number (record { 0 = number a }))
+  -- the calls that count, each as one list
+  pub number-rows :
+      (p : Picture)
+      → numberIn mode drop p ≡ answer Unnumbered (withMode mode (pictureRefusals (rateAt mode) (picturesAt mode) drop p)) (Number (record { 0 = number p }))
   unfolding numberIn numberOf
-  number-rows a = refl
+  number-rows p = refl
 
-  pub address-rows : (n : DayFrame) → addressIn mode drop n ≡ answer Unplaced (withMode mode (numberRefusals (rateAt mode) drop (n .0))) (At (address (n .0)))
-  unfolding addressIn addressOf
-  address-rows n = refl
+  pub picture-rows :
+      (n : DayFrame)
+      → pictureIn mode drop n ≡ answer Unpictured (withMode mode (numberRefusals (rateAt mode) (picturesAt mode) drop (n .0))) (At (numbered (n .0)))
+  unfolding pictureIn pictureOf
+  picture-rows n = refl
 
-  pub fields-rows : (a : Address) → fieldsIn mode drop a ≡ answer Unplaced (withMode mode (refusalsOf (rateAt mode) drop a)) (At a)
+  pub fields-rows : (p : Picture) → fieldsIn mode drop p ≡ answer Unpictured (withMode mode (pictureRefusals (rateAt mode) (picturesAt mode) drop p)) (At p)
   unfolding fieldsIn fieldsOf
-  fields-rows a = refl
+  fields-rows p = refl
 
   pub span-rows :
-      (from to : Address)
+      (from to : Picture)
       → spanIn mode drop from to
-      ≡ answer Unmeasured (withMode mode (refusalsOfTwo (rateAt mode) drop from to)) (Frames (distanceOf day (number from) (number to)))
+      ≡ answer Unmeasured (withMode mode (twoRefusals (rateAt mode) (picturesAt mode) drop from to)) (Frames (distanceOf day (number from) (number to)))
   unfolding spanIn spanOf
   span-rows from to = refl
 
   pub plus-rows :
-      (a : Address) (z : ℤ)
-      → plusIn mode drop a z ≡ answer Unplaced (withMode mode (refusalsOf (rateAt mode) drop a)) (At (address (sumOf day (number a) z)))
+      (p : Picture) (z : ℤ)
+      → plusIn mode drop p z
+      ≡ answer Unpictured (withMode mode (pictureRefusals (rateAt mode) (picturesAt mode) drop p)) (At (numbered (sumOf day (number p) z)))
   unfolding plusIn plusOf
-  plus-rows a z = refl
+  plus-rows p z = refl
 
   -- and each follows the order
-  pub address-rows-in-order : (a : Address) → inOrder theOrder (withMode mode (refusalsOf (rateAt mode) drop a)) ≡ true
-  address-rows-in-order a = refl
+  pub picture-rows-in-order : (p : Picture) → inOrder theOrder (withMode mode (pictureRefusals (rateAt mode) (picturesAt mode) drop p)) ≡ true
+  picture-rows-in-order p = refl
 
-  pub two-rows-in-order : (from to : Address) → inOrder theOrder (withMode mode (refusalsOfTwo (rateAt mode) drop from to)) ≡ true
+  pub two-rows-in-order : (from to : Picture) → inOrder theOrder (withMode mode (twoRefusals (rateAt mode) (picturesAt mode) drop from to)) ≡ true
   two-rows-in-order from to = refl
 
-  pub number-rows-in-order : (n : ℕ) → inOrder theOrder (withMode mode (numberRefusals (rateAt mode) drop n)) ≡ true
+  pub number-rows-in-order : (n : ℕ) → inOrder theOrder (withMode mode (numberRefusals (rateAt mode) (picturesAt mode) drop n)) ≡ true
   number-rows-in-order n = refl
 
 -- the calls of the record have one list by definition

@@ -1,65 +1,70 @@
-// The calls of the clock, by mode.
+// The calls that count, by mode.
 ghost use mathlib.Core.Path.{_≡_};
 ghost use Rattle.rates.specs.Face.{showing};
-ghost use Rattle.modes.specs.Calls.{numberIn, addressIn, fieldsIn, spanIn, plusIn};
+ghost use Rattle.pictures.specs.Pictures.{picture};
+ghost use Rattle.modes.specs.Calls.{numberIn, pictureIn, fieldsIn, spanIn, plusIn};
 use crate::table::is_unknown;
+use crate::table::last_place;
 use crate::table::rate_at;
 use clock::DayFrame;
 use clock::Numbered;
-use clock::Placed;
 use clock::Span;
-use rates::Address;
+use pictures::Picture;
+use pictures::Pictured;
 use rates::Flag;
 use rates::SecondFrame;
 
-pub fn number_of(mode: u8, drop: Flag, address: Address) -> Numbered
-    ensures { λ r. ⌜ r ≡ numberIn mode drop address ⌝ }
+pub fn number_of(mode: u8, drop: Flag, picture: Picture) -> Numbered
+    ensures { λ r. ⌜ r ≡ numberIn mode drop picture ⌝ }
 {
     if is_unknown(mode) {
         return Numbered::Refused(refusals::UNKNOWN_MODE);
     }
-    clock::number_of(rate_at(mode), drop, address)
+    pictures::number_of(rate_at(mode), last_place(mode), drop, picture)
 }
 
-pub fn address_of(mode: u8, drop: Flag, number: DayFrame) -> Placed
-    ensures { λ r. ⌜ r ≡ addressIn mode drop number ⌝ }
+pub fn picture_of(mode: u8, drop: Flag, number: DayFrame) -> Pictured
+    ensures { λ r. ⌜ r ≡ pictureIn mode drop number ⌝ }
 {
     if is_unknown(mode) {
-        return Placed::Refused(refusals::UNKNOWN_MODE);
+        return Pictured::Refused(refusals::UNKNOWN_MODE);
     }
-    clock::address_of(rate_at(mode), drop, number)
+    pictures::picture_of(rate_at(mode), last_place(mode), drop, number)
 }
 
-pub fn address_from(
+pub fn picture_from(
     mode: u8,
     drop: Flag,
     hours: u8,
     minutes: u8,
     seconds: u8,
     frames: SecondFrame,
-) -> Placed
-    ensures { λ r. ⌜ r ≡ fieldsIn mode drop (showing hours minutes seconds (frames .0)) ⌝ }
+    place: u8,
+) -> Pictured
+    ensures { λ r. ⌜ r ≡ fieldsIn mode drop (picture (showing hours minutes seconds (frames .0)) place) ⌝ }
 {
     if is_unknown(mode) {
-        return Placed::Refused(refusals::UNKNOWN_MODE);
+        return Pictured::Refused(refusals::UNKNOWN_MODE);
     }
-    clock::address_from(rate_at(mode), drop, hours, minutes, seconds, frames)
+    let rate = rate_at(mode);
+    let last = last_place(mode);
+    pictures::picture_from(rate, last, drop, hours, minutes, seconds, frames, place)
 }
 
-pub fn distance(mode: u8, drop: Flag, from: Address, to: Address) -> Span
+pub fn distance(mode: u8, drop: Flag, from: Picture, to: Picture) -> Span
     ensures { λ r. ⌜ r ≡ spanIn mode drop from to ⌝ }
 {
     if is_unknown(mode) {
         return Span::Refused(refusals::UNKNOWN_MODE);
     }
-    clock::distance(rate_at(mode), drop, from, to)
+    pictures::distance(rate_at(mode), last_place(mode), drop, from, to)
 }
 
-pub fn add(mode: u8, drop: Flag, address: Address, frames: i32) -> Placed
-    ensures { λ r. ⌜ r ≡ plusIn mode drop address frames ⌝ }
+pub fn add(mode: u8, drop: Flag, picture: Picture, pictures: i32) -> Pictured
+    ensures { λ r. ⌜ r ≡ plusIn mode drop picture pictures ⌝ }
 {
     if is_unknown(mode) {
-        return Placed::Refused(refusals::UNKNOWN_MODE);
+        return Pictured::Refused(refusals::UNKNOWN_MODE);
     }
-    clock::add(rate_at(mode), drop, address, frames)
+    pictures::add(rate_at(mode), last_place(mode), drop, picture, pictures)
 }

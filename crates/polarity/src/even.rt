@@ -42,6 +42,7 @@ pub fn unmarked(r: Record) -> Record
     let address = r.address;
     let flags = r.flags;
     let groups = r.groups;
+    let place = r.place;
     let drop = flags.drop;
     let colour = flags.colour;
     let mark = Flag::No;
@@ -59,5 +60,6 @@ pub fn unmarked(r: Record) -> Record
             bgf2,
         },
         groups,
+        place,
     }
 }

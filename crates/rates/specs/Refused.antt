@@ -10,7 +10,7 @@ use Rattle.rates.specs.declared.types.Address.{Address}
 use Rattle.rates.specs.Rates.{isYes, framesInSecond, mayDrop}
 use Rattle.rates.specs.Face.{outside, skipped}
 
--- 8 a field is outside the clock; 9 at 30, drop set, one of the skipped addresses; 10 drop asked for at 24 or 25, or another unused bit
+-- 8 a field is outside the clock; 9 at 30, drop set, one of the skipped addresses; 10 drop asked for at 24 or 25, or another unused bit or place
 abbrev pub addressRefusals : Rate → Bool → Bool → Bool → Bool → List Refusal
 addressRefusals rate drop out skip unused =
     (outside-the-clock when out)
@@ -27,10 +27,13 @@ refusalsBesides bad unused rate drop a =
 abbrev pub refusalsOf : Rate → Flag → Address → List Refusal
 refusalsOf = refusalsBesides false false
 
--- of two addresses: "One counting mode is named for both"
-abbrev pub refusalsOfTwo : Rate → Flag → Address → Address → List Refusal
-refusalsOfTwo rate drop a b =
+-- of two addresses: "One counting mode is named for both"; and again where something besides them may make 8 or 10 apply
+abbrev pub refusalsOfTwoBesides : Bool → Bool → Rate → Flag → Address → Address → List Refusal
+refusalsOfTwoBesides bad unused rate drop a b =
     addressRefusals rate (isYes drop)
-    (outside (framesInSecond rate) a || outside (framesInSecond rate) b)
+    (bad || (outside (framesInSecond rate) a || outside (framesInSecond rate) b))
     (skipped a || skipped b)
-    false
+    unused
+
+abbrev pub refusalsOfTwo : Rate → Flag → Address → Address → List Refusal
+refusalsOfTwo = refusalsOfTwoBesides false false

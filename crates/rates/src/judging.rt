@@ -3,7 +3,7 @@ ghost use mathlib.Core.Path.{_≡_};
 ghost use Rattle.refusals.specs.Answer.{verdictOf};
 ghost use Rattle.rates.specs.Rates.{framesInSecond};
 ghost use Rattle.rates.specs.Face.{outside, skipped};
-ghost use Rattle.rates.specs.Refused.{addressRefusals, refusalsBesides, refusalsOfTwo};
+ghost use Rattle.rates.specs.Refused.{addressRefusals, refusalsBesides, refusalsOfTwoBesides};
 use crate::table::frames_in_second;
 use crate::table::is_yes;
 use crate::table::may_drop;
@@ -27,8 +27,8 @@ fn is_skipped(a: Address) -> bool
     (frames < 2) & ((a.seconds == 0) & !(a.minutes % 10 == 0))
 }
 
-// What an address, or two at one rate, are turned away with: `out` where 8 applies, `skip` where drop-frame skips, `unused` where a bit besides drop is set
-// that the rate does not use.
+// What an address, or two at one rate, are turned away with: `out` where 8 applies, `skip` where drop-frame skips, `unused` where a bit besides drop, or a place, is set
+// that is not used.
 fn verdict(rate: Rate, drop: bool, out: bool, skip: bool, unused: bool) -> Verdict
     ensures { λ r. ⌜ r ≡ verdictOf (addressRefusals rate drop out skip unused) ⌝ }
 {
@@ -55,10 +55,10 @@ pub fn judge(rate: Rate, drop: Flag, a: Address, bad: bool, unused: bool) -> Ver
     verdict(rate, is_yes(drop), out, is_skipped(a), unused)
 }
 
-pub fn judge_two(rate: Rate, drop: Flag, a: Address, b: Address) -> Verdict
-    ensures { λ r. ⌜ r ≡ verdictOf (refusalsOfTwo rate drop a b) ⌝ }
+pub fn judge_two(rate: Rate, drop: Flag, a: Address, b: Address, bad: bool, unused: bool) -> Verdict
+    ensures { λ r. ⌜ r ≡ verdictOf (refusalsOfTwoBesides bad unused rate drop a b) ⌝ }
 {
-    let out = is_outside(rate, a) | is_outside(rate, b);
+    let out = bad | (is_outside(rate, a) | is_outside(rate, b));
     let skip = is_skipped(a) | is_skipped(b);
-    verdict(rate, is_yes(drop), out, skip, false)
+    verdict(rate, is_yes(drop), out, skip, unused)
 }

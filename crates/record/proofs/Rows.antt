@@ -8,5 +8,5 @@ use Rattle.rates.specs.declared.types.Rate.{Rate}
 use Rattle.record.specs.declared.types.Record.{Record}
 use Rattle.record.specs.Calls.{recordRefusals}
 
-pub rows-in-order : (rate : Rate) (bad : Bool) (r : Record) → inOrder theOrder (recordRefusals rate bad r) ≡ true
-rows-in-order rate bad r = refl
+pub rows-in-order : (rate : Rate) (bad unused : Bool) (r : Record) → inOrder theOrder (recordRefusals rate bad unused r) ≡ true
+rows-in-order rate bad unused r = refl

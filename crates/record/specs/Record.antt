@@ -48,9 +48,9 @@ groupsHeld info =
       group8 = bits 60 63 info;
     }
 
--- the record that the bits hold
+-- the record that the bits hold: at a rate an address has one picture, the first
 unfoldable pub recordOf : Rate → ℕ → Record
-recordOf rate info = record { address = addressHeld info; flags = flagsHeld (places rate) info; groups = groupsHeld info }
+recordOf rate info = record { address = addressHeld info; flags = flagsHeld (places rate) info; groups = groupsHeld info; place = 0 }
 
 -- the flag that stands at a place, by the same table
 abbrev pub standingAt : Places → Flags → ℕ → Flag
@@ -80,7 +80,12 @@ marked mark r =
       address = r .address;
       flags = record { drop = f .drop; colour = f .colour; mark = mark; bgf0 = f .bgf0; bgf1 = f .bgf1; bgf2 = f .bgf2 };
       groups = r .groups;
+      place = r .place;
     }
+
+-- a record with its place said anew
+abbrev pub atPlace : ℕ → Record → Record
+atPlace place r = record { address = r .address; flags = r .flags; groups = r .groups; place = place }
 
 -- "digit above 9 in a units field"
 abbrev pub digitAbove9 : ℕ → Bool

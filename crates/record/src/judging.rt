@@ -7,14 +7,14 @@ use layout::is_unused_colour;
 use rates::Rate;
 use refusals::Verdict;
 
-// `bad` where a digit or a group is out of its range, which is no concern of the clock's.
-pub fn judge(rate: Rate, bad: bool, r: Record) -> Verdict
-    ensures { λ v. ⌜ v ≡ verdictOf (recordRefusals rate bad r) ⌝ }
+// `bad` where a digit or a group is out of its range, and `unused` where a place is not used: neither is a concern of the clock's.
+pub fn judge(rate: Rate, bad: bool, unused: bool, r: Record) -> Verdict
+    ensures { λ v. ⌜ v ≡ verdictOf (recordRefusals rate bad unused r) ⌝ }
 {
     let flags = r.flags;
     let drop = flags.drop;
     let colour = flags.colour;
-    let unused = is_unused_colour(rate, colour);
+    let set = unused | is_unused_colour(rate, colour);
     let address = r.address;
-    rates::judge(rate, drop, address, bad, unused)
+    rates::judge(rate, drop, address, bad, set)
 }

@@ -76,6 +76,7 @@ fn record_held(rate: Rate, info: u64) -> Record
         address: address_held(info),
         flags: flags_held(rate, info),
         groups: groups_held(info),
+        place: 0,
     }
 }
 
@@ -83,7 +84,7 @@ pub fn from_bits(rate: Rate, info: u64) -> Unpacked
     ensures { λ r. ⌜ r ≡ unpackedOf rate info ⌝ }
 {
     let record = record_held(rate, info);
-    let found = judge(rate, has_bad_digit(info), record);
+    let found = judge(rate, has_bad_digit(info), false, record);
     match found {
         Verdict::Refused(number) => Unpacked::Refused(number),
         Verdict::Sound => Unpacked::Holds(record),

@@ -23,11 +23,12 @@ pub struct Groups {
     pub group8: u8,
 }
 
-// What a code word, a line or a packet says.
+// What a code word, a line or a packet says. The place is that of its picture among those that share the address, 0 the first.
 pub struct Record {
     pub address: Address,
     pub flags: Flags,
     pub groups: Groups,
+    pub place: u8,
 }
 
 // The record that 64 information bits hold.

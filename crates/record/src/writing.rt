@@ -62,7 +62,8 @@ pub fn to_bits(rate: Rate, r: Record) -> Packed
     ensures { λ p. ⌜ p ≡ packedOf rate r ⌝ }
 {
     let groups = r.groups;
-    let found = judge(rate, has_high_group(groups), r);
+    let unused = 0 < r.place;
+    let found = judge(rate, has_high_group(groups), unused, r);
     match found {
         Verdict::Refused(number) => Packed::Refused(number),
         Verdict::Sound => Packed::Bits(packed(rate, r)),

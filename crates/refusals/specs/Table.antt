@@ -7,7 +7,7 @@ use mathlib.Core.List.{List, [], _∷_}
 abbrev pub wrong-length : ℕ
 wrong-length = 1
 
--- mode above 2
+-- mode above 2. Document 02, A4: above 5
 abbrev pub unknown-mode : ℕ
 unknown-mode = 2
 
@@ -31,19 +31,19 @@ low-bits-set = 6
 abbrev pub unknown-type : ℕ
 unknown-type = 7
 
--- digit above 9 in a units field, or hour, minute, second, frame outside the clock; in a record, a group above 15
+-- digit above 9 in a units field, or hour, minute, second, frame outside the clock; in a record, a group above 15. A4: in modes 3 to 5, a place not below 2
 abbrev pub outside-the-clock : ℕ
 outside-the-clock = 8
 
--- mode 2, drop set, one of the skipped addresses
+-- mode 2, drop set, one of the skipped addresses. A4: mode 5 as well
 abbrev pub skipped-address : ℕ
 skipped-address = 9
 
--- unused bit set (in a record: colour in mode 0), or drop asked for in mode 0 or 1
+-- unused bit set (in a record: colour in mode 0), or drop asked for in mode 0 or 1. A4: colour in mode 3, drop in modes 3 and 4; in modes 0 to 2, a place other than 0
 abbrev pub unused-bit-set : ℕ
 unused-bit-set = 10
 
--- LTC write of a record with mark 1
+-- LTC write of a record with mark 1. A4: in modes 3 to 5, a VITC line or packet of type 1 or 2 whose mark and pair place differ; LTC and type 0, a second picture
 abbrev pub mark-set : ℕ
 mark-set = 11
 
@@ -55,7 +55,7 @@ no-room = 12
 abbrev pub state-not-reached : ℕ
 state-not-reached = 13
 
--- frame number not below the day's count
+-- frame number not below the day's count. A4: in modes 3 to 5, a picture's
 abbrev pub number-past-the-day : ℕ
 number-past-the-day = 14
 

@@ -7,7 +7,7 @@ pub use types::Verdict;
 
 // Read: not exactly 80, 90 or 23 elements.
 pub const WRONG_LENGTH: u8 = 1;
-// Mode above 2.
+// Mode above 5.
 pub const UNKNOWN_MODE: u8 = 2;
 // Read or fed: element above 1 (bits) or above 1,023 (words).
 pub const ELEMENT_TOO_HIGH: u8 = 3;
@@ -19,19 +19,19 @@ pub const WRONG_CHECK: u8 = 5;
 pub const LOW_BITS_SET: u8 = 6;
 // Payload type above 2.
 pub const UNKNOWN_TYPE: u8 = 7;
-// Digit above 9 in a units field, or hour, minute, second, frame outside the clock; in a record, a group above 15.
+// Digit above 9 in a units field, or hour, minute, second, frame outside the clock; in a record, a group above 15; in modes 3 to 5, a place not below 2.
 pub const OUTSIDE_THE_CLOCK: u8 = 8;
-// Mode 2, drop set, one of the skipped addresses.
+// Mode 2 or 5, drop set, one of the skipped addresses.
 pub const SKIPPED_ADDRESS: u8 = 9;
-// Unused bit set (in a record: colour in mode 0), or drop asked for in mode 0 or 1.
+// Unused bit set (in a record: colour in mode 0 or 3), or drop asked for in mode 0, 1, 3 or 4; in modes 0 to 2, a place other than 0.
 pub const UNUSED_BIT_SET: u8 = 10;
-// LTC write of a record with mark 1.
+// LTC write of a record with mark 1. In modes 3 to 5: a VITC line or packet of type 1 or 2 whose mark and pair place differ; LTC and type 0, a second picture.
 pub const MARK_SET: u8 = 11;
 // Write: fewer than 80, 90 or 23 elements from the start given, or start past the end.
 pub const NO_ROOM: u8 = 12;
 // Reader state that no feeding reaches.
 pub const STATE_NOT_REACHED: u8 = 13;
-// Frame number not below the day's count.
+// Frame number, in modes 3 to 5 a picture's, not below the day's count.
 pub const NUMBER_PAST_THE_DAY: u8 = 14;
 // A9: types 1 and 2 on 525 or 625 line interfaces, second byte whose low six bits have no entry in Table 4 of source document 000.
 pub const IMPOSSIBLE_LINE: u8 = 19;

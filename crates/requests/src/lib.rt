@@ -31,4 +31,5 @@ pub use values::address_in;
 pub use values::byte;
 pub use values::count;
 pub use values::day_frame;
+pub use values::picture_in;
 pub use values::record_in;

@@ -21,7 +21,7 @@ pub struct Taken {
 }
 
 // No form has more numbers than this.
-pub const MOST_NUMBERS: usize = 23;
+pub const MOST_NUMBERS: usize = 24;
 
 pub type Numbers = [u64; MOST_NUMBERS];
 

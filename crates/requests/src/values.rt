@@ -2,11 +2,14 @@
 ghost use mathlib.Core.Path.{_≡_};
 ghost use Prim.Native.Nat.{_%_, _<_, _^_};
 ghost use lib.IntN.{subℕ};
+ghost use lib.ListN.{getD};
 ghost use Rattle.rates.specs.Face.{showing};
+ghost use Rattle.pictures.specs.Pictures.{picture};
 ghost use Rattle.requests.specs.Parsing.{addressFrom};
 use crate::types::Numbers;
 use clock::DayFrame;
 use layout::flag;
+use pictures::Picture;
 use rates::Address;
 use rates::SecondFrame;
 use record::Flags;
@@ -48,6 +51,16 @@ pub fn address_in(hours: u64, minutes: u64, seconds: u64, frames: u64) -> Addres
     }
 }
 
+// `H M S F P`.
+pub fn picture_in(hours: u64, minutes: u64, seconds: u64, frames: u64, place: u64) -> Picture
+    ensures { λ r. ⌜ r ≡ picture (showing (hours % 256) (minutes % 256) (seconds % 256) (frames % 256)) (place % 256) ⌝ }
+{
+    Picture {
+        address: address_in(hours, minutes, seconds, frames),
+        place: byte(place),
+    }
+}
+
 fn flags_in(n: &Numbers) -> Flags {
     Flags {
         drop: flag(n[7]),
@@ -74,11 +87,12 @@ fn groups_in(n: &Numbers) -> Groups {
 
 // RECORD, from the fourth number of a write's form on.
 pub fn record_in(n: &Numbers) -> Record
-    ensures { λ r. ⌜ r .address ≡ addressFrom 3 (now (n .entry)) ⌝ }
+    ensures { λ r. ⌜ (r .address ≡ addressFrom 3 (now (n .entry))) × (r .place ≡ getD (now (n .entry)) 21 0 % 256) ⌝ }
 {
     Record {
         address: address_in(n[3], n[4], n[5], n[6]),
         flags: flags_in(n),
         groups: groups_in(n),
+        place: byte(n[21]),
     }
 }

@@ -1,7 +1,7 @@
--- Numbers    the laws of the clock, said by mode: numbers and addresses match one to one, and adding the distance arrives
+-- Numbers    the laws of counting, said by mode: numbers and pictures match one to one, and adding the distance arrives
 pub mod Numbers
 -- Records    the 64 bits and a record match one to one, at every rate
--- ByMode     and in every mode
+-- ByMode     and in every mode, with the picture that is shown
 pub mod Records
 pub mod ByMode
 -- Linear words:
@@ -27,3 +27,6 @@ pub mod Lines
 pub mod WholePacket
 pub mod Packets
 pub mod Nineteen
+-- All three:
+-- Eleven     11 is given exactly where the record stands and another picture is asked for than is shown, or, on the linear track, a mark
+pub mod Eleven

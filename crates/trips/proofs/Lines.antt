@@ -9,7 +9,7 @@ use mathlib.Core.Logic.{_↔_}
 use lib.Dec.{eqb}
 use lib.ListN.{length, take, drop}
 use borrow.Author.Tests.{eq-eqb, eqb-true, not-false}
-use Rattle.refusals.specs.Table.{wrong-length, unknown-mode, element-too-high, wrong-sync, wrong-check, outside-the-clock, no-room}
+use Rattle.refusals.specs.Table.{wrong-length, unknown-mode, element-too-high, wrong-sync, wrong-check, outside-the-clock, mark-set}
 use Rattle.refusals.proofs.Answered.{Clear, otherwise-accepted, accepted-as}
 use Rattle.refusals.proofs.ByNumber.{clear-at, clear-from, clear-before, clear-whole}
 use Rattle.runs.specs.declared.types.Written.the-variants.{Done}
@@ -18,26 +18,34 @@ use Rattle.runs.proofs.Written.{done-clear, clear-done, stored, stored-reads, r
 use Rattle.record.specs.declared.types.Record.{Record}
 use Rattle.record.specs.declared.types.Unpacked.the-variants.{Holds, Refused as Unheld}
 use Rattle.record.specs.declared.types.Packed.the-variants.{Bits, Refused as Unpackable}
-use Rattle.trips.proofs.Records.{information, no-record}
+use Rattle.record.proofs.Marks.{info-below as info-small}
+use Rattle.trips.proofs.Records.{no-record}
 use Rattle.modes.specs.Modes.{rateAt, withMode}
-use Rattle.modes.specs.Calls.{recordIn, informationIn, bitsRefusalsIn, writeRefusalsIn, packedIn, unpackedIn}
+use Rattle.modes.specs.Calls.{informationIn, bitsRefusalsIn, writeRefusalsIn, packedIn}
+use Rattle.modes.specs.declared.types.Shows.the-variants.{ByMark}
+use Rattle.modes.specs.Shown.{shownRecord, shownIn, unshown}
+use Rattle.modes.proofs.ByRate.{fits-of}
 use Rattle.modes.proofs.Told.{packed-is}
-use Rattle.trips.proofs.ByMode.{one-to-one as bits-one-to-one}
+use Rattle.trips.proofs.ByMode.{shown-one-to-one}
 use Rattle.interval.specs.Line.{infoIn, lineWith}
 use Rattle.interval.proofs.Shape.{length-line}
 use Rattle.vitc.specs.Calls.{readRefusals, readOf, lineOf, writtenRows, writtenOf, runOf}
 use Rattle.trips.proofs.WholeLine.{Sound, info-below, line-one-to-one}
 
+-- what a line can hold: a record that its own list clears, and whose mark shows its picture
+abbrev pub Acceptable : ℕ → Record → Type 0
+Acceptable mode r = Clear (withMode mode (writeRefusalsIn mode r)) × (unshown mode ByMark r ≡ false)
+
 module _ (mode : ℕ) (r : Record) (line : List ℕ) where
-  -- a line reads as a record exactly where it is sound and its 64 bits hold the record
-  pub reads : readOf mode line ≡ Holds r ↔ (Sound line × (unpackedIn mode (infoIn line) ≡ Holds r))
-  unfolding readOf unpackedIn
+  -- a line reads as a record exactly where it is sound and its 64 bits, of the picture that the mark shows, are the record
+  pub reads : readOf mode line ≡ Holds r ↔ (Sound line × (shownIn mode ByMark (infoIn line) ≡ Holds r))
+  unfolding readOf shownIn
   reads = (there, back)
     where
-      there : readOf mode line ≡ Holds r → Sound line × (unpackedIn mode (infoIn line) ≡ Holds r)
+      there : readOf mode line ≡ Holds r → Sound line × (shownIn mode ByMark (infoIn line) ≡ Holds r)
       there e =
           let rows = readRefusals mode line in
-          let taken = accepted-as Unheld (Holds (recordIn mode (infoIn line))) rows (Holds r) no-record e in
+          let taken = accepted-as Unheld (Holds (shownRecord mode ByMark (infoIn line))) rows (Holds r) no-record e in
           let clear = taken .0 in
           let known = clear-at unknown-mode rows clear in
           let rest = clear-from outside-the-clock rows clear in (
@@ -47,50 +55,51 @@ module _ (mode : ℕ) (r : Record) (line : List ℕ) where
               pairs = clear-at wrong-sync rows clear;
               crc = clear-at wrong-check rows clear;
             },
-            otherwise-accepted Unheld (Holds (recordIn mode (infoIn line))) (withMode mode (bitsRefusalsIn mode (infoIn line))) (known, rest)
+            otherwise-accepted Unheld (Holds (shownRecord mode ByMark (infoIn line))) (withMode mode (bitsRefusalsIn mode (infoIn line))) (known, rest)
                 ∙ taken .1,
           )
 
-      back : Sound line × (unpackedIn mode (infoIn line) ≡ Holds r) → readOf mode line ≡ Holds r
+      back : Sound line × (shownIn mode ByMark (infoIn line) ≡ Holds r) → readOf mode line ≡ Holds r
       back h =
           let s = h .0 in
           let bits = withMode mode (bitsRefusalsIn mode (infoIn line)) in
-          let taken = accepted-as Unheld (Holds (recordIn mode (infoIn line))) bits (Holds r) no-record (h .1) in
+          let taken = accepted-as Unheld (Holds (shownRecord mode ByMark (infoIn line))) bits (Holds r) no-record (h .1) in
           let ninety : not (eqb (length line) 90) ≡ false = rw (eq-eqb (length line) 90 (s .long)) in
           let known = clear-at unknown-mode bits (taken .0) in
           let rest = clear-from outside-the-clock bits (taken .0) in
-          otherwise-accepted Unheld (Holds (recordIn mode (infoIn line))) (readRefusals mode line)
+          otherwise-accepted Unheld (Holds (shownRecord mode ByMark (infoIn line))) (readRefusals mode line)
           (ninety, (known, (s .clean, (s .pairs, (s .crc, rest)))))
           ∙ taken .1
 
-  -- a record that is accepted makes exactly the line that reads as it
-  pub made-reads : (Clear (withMode mode (writeRefusalsIn mode r)) × (lineOf mode r ≡ line)) ↔ (readOf mode line ≡ Holds r)
+  -- a record that is accepted, and whose mark shows its picture, makes exactly the line that reads as it
+  pub made-reads : (Acceptable mode r × (lineOf mode r ≡ line)) ↔ (readOf mode line ≡ Holds r)
   unfolding lineOf packedIn
   made-reads = (there, back)
     where
-      there : Clear (withMode mode (writeRefusalsIn mode r)) × (lineOf mode r ≡ line) → readOf mode line ≡ Holds r
+      there : Acceptable mode r × (lineOf mode r ≡ line) → readOf mode line ≡ Holds r
       there h =
           let rows = withMode mode (writeRefusalsIn mode r) in
-          let small = information (rateAt mode) r (clear-from outside-the-clock rows (h .0)) in
-          let packed = otherwise-accepted Unpackable (Bits (informationIn mode r)) rows (h .0) in
-          let held = bits-one-to-one mode (informationIn mode r) r small .0 packed in
+          let small = info-small (rateAt mode) r (fits-of mode r (clear-from outside-the-clock rows (h .0 .0))) in
+          let packed = otherwise-accepted Unpackable (Bits (informationIn mode r)) rows (h .0 .0) in
+          let held = shown-one-to-one mode ByMark (informationIn mode r) r small .0 (packed, h .0 .1) in
           let both = line-one-to-one (informationIn mode r) line small .0 (h .1) in
-          reads .1 (both .0, ap (unpackedIn mode) (both .1) ∙ held)
+          reads .1 (both .0, ap (shownIn mode ByMark) (both .1) ∙ held)
 
-      back : readOf mode line ≡ Holds r → Clear (withMode mode (writeRefusalsIn mode r)) × (lineOf mode r ≡ line)
+      back : readOf mode line ≡ Holds r → Acceptable mode r × (lineOf mode r ≡ line)
       back e =
           let both = reads .0 e in
           let small = info-below line (both .0) in
-          let packed = bits-one-to-one mode (infoIn line) r small .1 (both .1) in
-          let made = packed-is mode r (infoIn line) packed in
-          (made .0, ap lineWith (made .1) ∙ line-one-to-one (infoIn line) line small .1 (both .0, refl))
+          let packed = shown-one-to-one mode ByMark (infoIn line) r small .1 (both .1) in
+          let made = packed-is mode r (infoIn line) (packed .0) in
+          ((made .0, packed .1), ap lineWith (made .1) ∙ line-one-to-one (infoIn line) line small .1 (both .0, refl))
 
 -- a record that was read is refused nowhere, where there is room
 read-clear :
     (mode : ℕ) (r : Record) (start : ℕ) (run line : List ℕ) → start + 90 ≤ length run → readOf mode line ≡ Holds r → Clear (writtenRows mode r start run)
 read-clear mode r start run line room e =
     let fits = room-for 90 start (length run) room in
-    clear-whole no-room (writtenRows mode r start run) (made-reads mode r line .1 e .0) (fits, tt)
+    let ok = made-reads mode r line .1 e .0 in
+    clear-whole mark-set (writtenRows mode r start run) (ok .0) (ok .1, (fits, tt))
 
 -- said of the calls: where there is room, the write is done and leaves these 90 elements exactly where they read as the record
 pub one-to-one : (mode : ℕ) (r : Record) (start : ℕ) (run line : List ℕ) → start + 90 ≤ length run
@@ -108,7 +117,8 @@ one-to-one mode r start run line room = (there, back)
     there : (writtenOf mode r start run ≡ Done) × (take 90 (drop start after) ≡ line) → readOf mode line ≡ Holds r
     there h =
         let clear = done-clear (writtenRows mode r start run) (h .0) in
-        made-reads mode r line .0 (clear-before no-room (writtenRows mode r start run) clear, sym (left clear) ∙ h .1)
+        let rows = writtenRows mode r start run in
+        made-reads mode r line .0 ((clear-before mark-set rows clear, clear-at mark-set rows clear), sym (left clear) ∙ h .1)
 
     back : readOf mode line ≡ Holds r → (writtenOf mode r start run ≡ Done) × (take 90 (drop start after) ≡ line)
     back e =

@@ -31,7 +31,7 @@ ofPacket : Packet → ℕ
 ofPacket (Holds contents) = 0
 ofPacket (Unread n) = n
 
-ofWritten : Written → ℕ
+abbrev pub ofWritten : Written → ℕ
 ofWritten Done = 0
 ofWritten (Unwritten n) = n
 
@@ -65,7 +65,7 @@ module _ (mode : ℕ) (interface : Interface) where
       (r : Record) (type second start : ℕ) (run : List ℕ)
       → (writtenOf mode interface r type second start run ≡ Unwritten impossible-line)
       ↔ ((unknown mode ≡ false) × (impossibleLine interface type second ≡ true))
-  unfolding writtenOf ofWritten
+  unfolding writtenOf
   written-refused-by-19 r type second start run =
       let rows = writtenRows mode interface r type second start run in
       let before = rowsBefore impossible-line rows in

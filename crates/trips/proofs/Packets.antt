@@ -10,7 +10,7 @@ use native.Mathlib.Nat.{lt-of-lt-of-le, pow-le-pow-right}
 use native.Mathlib.Omega.{arith}
 use lib.ListN.{length, take, drop, length-take}
 use borrow.Author.Tests.{ltb-false}
-use Rattle.refusals.specs.Table.{unknown-mode, unknown-type, outside-the-clock, no-room}
+use Rattle.refusals.specs.Table.{unknown-mode, unknown-type, outside-the-clock, mark-set, no-room}
 use Rattle.refusals.specs.Answer.{Refusal}
 use Rattle.refusals.proofs.Answered.{Clear, otherwise-accepted, accepted-as}
 use Rattle.refusals.proofs.ByNumber.{rowsFrom, rowsBefore, clear-at, clear-from, clear-before, clear-whole}
@@ -20,11 +20,13 @@ use Rattle.runs.proofs.Written.{done-clear, clear-done, stored, stored-reads, h
 use Rattle.record.specs.declared.types.Record.{Record}
 use Rattle.record.specs.declared.types.Packed.the-variants.{Bits, Refused as Unpackable}
 use Rattle.record.specs.declared.types.Unpacked.the-variants.{Holds as Held, Refused as Unheld}
-use Rattle.trips.proofs.Records.{information}
+use Rattle.record.proofs.Marks.{info-below as info-small}
 use Rattle.modes.specs.Modes.{unknown, rateAt, withMode}
-use Rattle.modes.specs.Calls.{recordIn, informationIn, bitsRefusalsIn, writeRefusalsIn, packedIn, unpackedIn}
+use Rattle.modes.specs.Calls.{informationIn, bitsRefusalsIn, writeRefusalsIn, packedIn}
+use Rattle.modes.specs.Shown.{shownRecord, shownIn, unshown}
+use Rattle.modes.proofs.ByRate.{fits-of}
 use Rattle.modes.proofs.Told.{packed-is}
-use Rattle.trips.proofs.ByMode.{one-to-one}
+use Rattle.trips.proofs.ByMode.{shown-one-to-one}
 use Rattle.words.specs.Words.{bitIn, infoIn}
 use Rattle.words.proofs.Lists.{gathered-below}
 use Rattle.packets.specs.Packet.{dataIn, typeIn, secondIn, packetWith}
@@ -34,13 +36,14 @@ use Rattle.atc.specs.declared.types.Interface.{Interface}
 use Rattle.atc.specs.declared.types.Contents.{Contents}
 use Rattle.atc.specs.declared.types.Packet.{Packet}
 use Rattle.atc.specs.declared.types.Packet.the-variants.{Holds, Refused as Unread}
-use Rattle.atc.specs.Calls.{payloadRefusals, readRefusals, contentsWith, readOf, packetOf, writtenRows, writtenOf, runOf}
+use Rattle.atc.specs.Calls.{payloadRefusals, showsBy, readRefusals, contentsWith, readOf, packetOf, writtenRows, writtenOf, runOf}
 use Rattle.trips.proofs.WholePacket.{form-clear, info-again, type-again, second-again, packet-again, info-below}
 use Rattle.atc.proofs.Answers.{size, past-the-payload}
 
--- what a packet can hold on an interface: a record that its own list clears, and a type and a second byte that theirs does
+-- what a packet can hold on an interface: a record that its own list clears, a type and a second byte that theirs does, and the picture that the packet shows
 abbrev pub Acceptable : ℕ → Interface → Record → ℕ → ℕ → Type 0
-Acceptable mode interface r type second = Clear (withMode mode (writeRefusalsIn mode r)) × Clear (payloadRefusals interface type second)
+Acceptable mode interface r type second =
+    Clear (withMode mode (writeRefusalsIn mode r)) × Clear (payloadRefusals interface type second) × (unshown mode (showsBy type) r ≡ false)
 
 module _ (mode : ℕ) (interface : Interface) (r : Record) (type second : ℕ) where
   -- what was written reads as record, type and second byte
@@ -51,9 +54,9 @@ module _ (mode : ℕ) (interface : Interface) (r : Record) (type second : ℕ) w
       let info = informationIn mode r in
       let rows = withMode mode (writeRefusalsIn mode r) in
       let known : unknown mode ≡ false = clear-at unknown-mode rows (ok .0) in
-      let small : info < 2 ^ 64 = information (rateAt mode) r (clear-from outside-the-clock rows (ok .0)) in
+      let small : info < 2 ^ 64 = info-small (rateAt mode) r (fits-of mode r (clear-from outside-the-clock rows (ok .0))) in
       let packed : packedIn mode r ≡ Bits info = otherwise-accepted Unpackable (Bits info) rows (ok .0) in
-      let held : unpackedIn mode info ≡ Held r = one-to-one mode info r small .0 packed in
+      let held : shownIn mode (showsBy type) info ≡ Held r = shown-one-to-one mode (showsBy type) info r small .0 (packed, ok .2) in
       let words = packetWith info type second in
       let before = rowsBefore outside-the-clock (readRefusals mode interface words) in
       let few : type ≤ 2 = ltb-false 2 type (clear-at unknown-type (payloadRefusals interface type second) (ok .1)) in
@@ -74,24 +77,26 @@ module _ (mode : ℕ) (interface : Interface) (words : List ℕ) (clear : Clear 
   form : Clear (formRefusals mode words)
   form = clear-before unknown-type (readRefusals mode interface words) clear
 
-  read-again :
-      Acceptable mode interface (recordIn mode info) (typeIn words) (secondIn words)
-      × (packetOf mode (recordIn mode info) (typeIn words) (secondIn words) ≡ words)
-  unfolding unpackedIn
+  abbrev held : Record
+  held = shownRecord mode (showsBy (typeIn words)) info
+
+  read-again : Acceptable mode interface held (typeIn words) (secondIn words) × (packetOf mode held (typeIn words) (secondIn words) ≡ words)
+  unfolding shownIn
   read-again =
-      let r = recordIn mode info in
       let rows = readRefusals mode interface words in
+      let shows = showsBy (typeIn words) in
       let known : unknown mode ≡ false = clear-at unknown-mode rows clear in
       let own : Clear (bitsRefusalsIn mode info) = clear-from outside-the-clock rows clear in
-      let held : unpackedIn mode info ≡ Held r = otherwise-accepted Unheld (Held r) (withMode mode (bitsRefusalsIn mode info)) (known, own) in
-      let packed = packed-is mode r info (one-to-one mode info r (info-below mode words form) .1 held) in (
-        (packed .0, clear-before outside-the-clock (rowsFrom unknown-type rows) (clear-from unknown-type rows clear)),
+      let read : shownIn mode shows info ≡ Held held = otherwise-accepted Unheld (Held held) (withMode mode (bitsRefusalsIn mode info)) (known, own) in
+      let written = shown-one-to-one mode shows info held (info-below mode words form) .1 read in
+      let packed = packed-is mode held info (written .0) in (
+        (packed .0, clear-before outside-the-clock (rowsFrom unknown-type rows) (clear-from unknown-type rows clear), written .1),
         ap (λ (n : ℕ). packetWith n (typeIn words) (secondIn words)) (packed .1) ∙ packet-again mode words form,
       )
 
 -- what a packet carries, whether or not it is accepted
 abbrev carriedIn : ℕ → List ℕ → Contents
-carriedIn mode words = contentsWith (recordIn mode (infoIn (dataIn words))) (typeIn words) (secondIn words)
+carriedIn mode words = contentsWith (shownRecord mode (showsBy (typeIn words)) (infoIn (dataIn words))) (typeIn words) (secondIn words)
 
 -- a packet that was read is clear of refusals
 read-clear :
@@ -148,8 +153,8 @@ module _ (mode : ℕ) (interface : Interface) (r : Record) (type second start : 
   rows-apart : Clear rows → Acceptable mode interface r type second × (start + 23 ≤ length run)
   rows-apart clear =
       let known : unknown mode ≡ false = clear-at unknown-mode rows clear in
-      let own : Clear (writeRefusalsIn mode r) = clear-before no-room (rowsFrom outside-the-clock rows) (clear-from outside-the-clock rows clear) in (
-        ((known, own), clear-before outside-the-clock (rowsFrom unknown-type rows) (clear-from unknown-type rows clear)),
+      let own : Clear (writeRefusalsIn mode r) = clear-before mark-set (rowsFrom outside-the-clock rows) (clear-from outside-the-clock rows clear) in (
+        ((known, own), clear-before outside-the-clock (rowsFrom unknown-type rows) (clear-from unknown-type rows clear), clear-at mark-set rows clear),
         has-room 23 start (length run) (clear-at no-room rows clear),
       )
 
@@ -159,7 +164,7 @@ module _ (mode : ℕ) (interface : Interface) (r : Record) (type second start : 
       let known : unknown mode ≡ false = clear-at unknown-mode own-rows (ok .0) in
       let own : Clear (writeRefusalsIn mode r) = clear-from outside-the-clock own-rows (ok .0) in
       let roomy : noRoom 23 start (length run) ≡ false = room-for 23 start (length run) room in
-      clear-whole no-room rows (clear-whole outside-the-clock (rowsBefore no-room rows) (known, ok .1) own) (roomy, tt)
+      clear-whole mark-set rows (clear-whole outside-the-clock (rowsBefore mark-set rows) (known, ok .1) own) (ok .2, (roomy, tt))
 
   -- "the lent bits then read as the record": said of a write that is done, and of a packet that was read and has room
   pub done-reads :

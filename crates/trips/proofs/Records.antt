@@ -2,32 +2,33 @@
 -- Assumes nothing.
 use Prim.Native.Nat.{ℕ, zero, suc, _+_, _*_, _/_, _%_, _^_, _<_, _≤_}
 use mathlib.Core.Path.{_≡_, refl, sym, ap, subst, _∙_}
-use mathlib.Core.Bool.{Bool, false}
+use mathlib.Core.Bool.{Bool, false, _||_}
 use mathlib.Core.List.{List, [], _∷_}
 use mathlib.Core.Logic.{_↔_}
 use native.Mathlib.Omega.{arith}
 use lib.Dec.{ltb}
 use lib.ListN.{getD, take}
 use borrow.Author.Tests.{ltb-false, le-ltb}
-use Rattle.refusals.specs.Table.{outside-the-clock, skipped-address}
+use Rattle.refusals.specs.Table.{outside-the-clock, skipped-address, unused-bit-set}
 use Rattle.refusals.specs.Answer.{Refusal}
 use Rattle.refusals.proofs.Answered.{Clear, neither, otherwise-accepted, accepted-as}
-use Rattle.refusals.proofs.ByNumber.{clear-at, clear-from}
+use Rattle.refusals.proofs.ByNumber.{clear-at}
 use Rattle.rates.specs.declared.types.Rate.{Rate}
 use Rattle.rates.specs.declared.types.Rate.the-variants.{At24, At25, At30}
 use Rattle.rates.specs.declared.types.Flag.{Flag}
 use Rattle.rates.specs.declared.types.Flag.the-variants.{No, Yes}
 use Rattle.record.specs.declared.types.Flags.{Flags}
 use Rattle.record.specs.declared.types.Record.{Record}
+use Rattle.record.specs.declared.types.Unpacked.{Unpacked}
 use Rattle.record.specs.declared.types.Unpacked.the-variants.{Holds, Refused as Unheld}
 use Rattle.record.specs.declared.types.Packed.the-variants.{Bits, Refused as Unpackable}
 use Rattle.layout.specs.Layout.{bits, join, split, layout}
-use Rattle.layout.specs.Flags.{flagOf, bitOf, flagAt, Places, places}
-use Rattle.record.specs.Record.{flagsHeld, recordOf, standingAt, fieldsOf, infoOf, digitAbove9, groupAbove15, marked}
+use Rattle.layout.specs.Flags.{flagOf, bitOf, flagAt, Places, places, unusedColour}
+use Rattle.record.specs.Record.{flagsHeld, recordOf, standingAt, fieldsOf, infoOf, digitAbove9, groupAbove15, atPlace}
 use Rattle.record.specs.Calls.{recordRefusals, bitsRefusals, writeRefusals, packedOf, unpackedOf}
 use Rattle.record.proofs.Accepted.{Writable, writable}
 use Rattle.layout.proofs.Fields.{total, split-join, join-split, field-at}
-use Rattle.record.proofs.Marks.{fields-below, info-below}
+use Rattle.record.proofs.Marks.{fields-below}
 
 -- a flag is read back from its bit
 flag-of-bit : {b : ℕ} (f : Flag) → b ≡ bitOf f → flagOf b ≡ f
@@ -60,7 +61,7 @@ module _ (rate : Rate) (r : Record) (fits : Writable (r .address) (r .groups)) w
       sym (field-at layout (infoOf rate r) k)
       ∙ ap (λ (values : List ℕ). getD values k 0) (split-join layout (fieldsOf rate r) (fields-below rate r fits))
 
-  pub read-back : recordOf rate (infoOf rate r) ≡ r
+  pub read-back : recordOf rate (infoOf rate r) ≡ atPlace 0 r
   unfolding recordOf layout fieldsOf
   read-back =
       let a = r .address in
@@ -94,6 +95,7 @@ module _ (rate : Rate) (r : Record) (fits : Writable (r .address) (r .groups)) w
               group7 = written 17 i;
               group8 = written 21 i;
             };
+        place = 0;
       }
 
   pub no-digit-above-9 : digitAbove9 (infoOf rate r) ≡ false
@@ -160,27 +162,38 @@ module _ (rate : Rate) (n : ℕ) where
       let low : (m : ℕ) → ltb 15 (m % 16) ≡ false = λ m. le-ltb 15 (m % 16) (omega arith) in
       simp low
 
--- a list of refusals that is clear stays clear with another test for 8 that is not met
+-- a list of refusals that is clear stays clear with other tests for 8 and 10 that are not met
 clear-with :
-    (rate : Rate) (r : Record) (bad other : Bool) → other ≡ false → Clear (recordRefusals rate bad r) → Clear (recordRefusals rate other r)
-clear-with rate r bad other good clear =
-    let rows = recordRefusals rate bad r in
-    (rw good (neither bad _ (clear-at outside-the-clock rows clear) .1), clear-from skipped-address rows clear)
+    (rate : Rate) (r : Record) (bad unused other another : Bool) → other ≡ false → another ≡ false → Clear (recordRefusals rate bad unused r)
+    → Clear (recordRefusals rate other another r)
+clear-with rate r bad unused other another good used clear =
+    let rows = recordRefusals rate bad unused r in
+    let colour = unusedColour rate (r .flags .colour) in
+    let ten = neither (unused || colour) _ (clear-at unused-bit-set rows clear) in (
+      rw good (neither bad _ (clear-at outside-the-clock rows clear) .1),
+      (clear-at skipped-address rows clear, (rw (used, neither unused colour (ten .0) .1) (ten .1), tt)),
+    )
+
+-- a record whose place is said as it is, is itself
+pub at-place-same : (r : Record) (place : ℕ) → r .place ≡ place → atPlace place r ≡ r
+at-place-same r place e = λ i. atPlace (sym e i) r
 
 module _ (rate : Rate) (r : Record) (clear : Clear (writeRefusals rate r)) where
-  -- a record that is accepted makes 64 bits
-  pub information : infoOf rate r < 2 ^ 64
-  information = info-below rate r (writable rate r clear)
+  -- it is of the first picture
+  first : r .place ≡ 0
+  first =
+      let ten = neither (ltb 0 (r .place) || unusedColour rate (r .flags .colour)) _ (clear-at unused-bit-set (writeRefusals rate r) clear) in
+      let none = ltb-false 0 (r .place) (neither (ltb 0 (r .place)) _ (ten .0) .0) in omega arith
 
   -- reading what was written gives the record
   pub read-of-written : (recordOf rate (infoOf rate r) ≡ r) × (digitAbove9 (infoOf rate r) ≡ false)
-  read-of-written = (read-back rate r (writable rate r clear), no-digit-above-9 rate r (writable rate r clear))
+  read-of-written = (read-back rate r (writable rate r clear) ∙ at-place-same r 0 first, no-digit-above-9 rate r (writable rate r clear))
 
   unpacked : unpackedOf rate (infoOf rate r) ≡ Holds r
   unfolding unpackedOf
   unpacked =
-      let again = clear-with rate r (groupAbove15 (r .groups)) (digitAbove9 (infoOf rate r)) (read-of-written .1) clear in
-      let rows : Record → List Refusal = λ s. recordRefusals rate (digitAbove9 (infoOf rate r)) s in
+      let again = clear-with rate r (groupAbove15 (r .groups)) (ltb 0 (r .place)) (digitAbove9 (infoOf rate r)) false (read-of-written .1) refl clear in
+      let rows : Record → List Refusal = λ s. recordRefusals rate (digitAbove9 (infoOf rate r)) false s in
       otherwise-accepted Unheld _ (rows (recordOf rate (infoOf rate r))) (subst (λ (s : Record). Clear (rows s)) (sym (read-of-written .0)) again)
       ∙ ap Holds (read-of-written .0)
 
@@ -190,9 +203,9 @@ module _ (rate : Rate) (n : ℕ) (low : n < 2 ^ 64) (clear : Clear (bitsRefusals
   written-of-read = (info-again rate n low (neither (digitAbove9 n) _ (clear-at outside-the-clock (bitsRefusals rate n) clear) .0), no-group-above-15 rate n)
 
   packed : packedOf rate (recordOf rate n) ≡ Bits n
-  unfolding packedOf
+  unfolding packedOf recordOf
   packed =
-      let again = clear-with rate (recordOf rate n) (digitAbove9 n) (groupAbove15 (recordOf rate n .groups)) (written-of-read .1) clear in
+      let again = clear-with rate (recordOf rate n) (digitAbove9 n) false (groupAbove15 (recordOf rate n .groups)) false (written-of-read .1) refl clear in
       otherwise-accepted Unpackable _ (writeRefusals rate (recordOf rate n)) again ∙ ap Bits (written-of-read .0)
 
 no-bits : {n : ℕ} (k : ℕ) → Unpackable k ≡ Bits n → ⊥
@@ -200,6 +213,10 @@ no-bits k e = let z : _≡_ {A = ℕ} 0 1 = cc in omega arith
 
 pub no-record : {r : Record} (k : ℕ) → Unheld k ≡ Holds r → ⊥
 no-record k e = let z : _≡_ {A = ℕ} 0 1 = cc in omega arith
+
+abbrev pub recordHeld : Record → Unpacked → Record
+recordHeld r (Holds s) = s
+recordHeld r (Unheld n) = r
 
 -- said of the calls: a record makes 64 bits exactly where those bits hold the record
 pub one-to-one : (rate : Rate) (n : ℕ) (r : Record) → n < 2 ^ 64 → packedOf rate r ≡ Bits n ↔ unpackedOf rate n ≡ Holds r
@@ -217,8 +234,3 @@ one-to-one rate n r low = (there, back)
         let taken = accepted-as Unheld _ (bitsRefusals rate n) (Holds r) no-record e in
         let same : recordOf rate n ≡ r = cc (taken .1) in
         subst (λ (s : Record). packedOf rate s ≡ Bits n) same (packed rate n low (taken .0))
-
--- the mark is all that the bits with another mark are read to differ in
-module _ (rate : Rate) (r : Record) (fits : Writable (r .address) (r .groups)) where
-  pub mark-alone : (mark : Flag) → marked No (recordOf rate (infoOf rate (marked mark r))) ≡ marked No r
-  mark-alone mark = ap (marked No) (read-back rate (marked mark r) fits)

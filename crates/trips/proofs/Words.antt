@@ -1,5 +1,5 @@
 -- What was written, whichever was made, reads as the record, and what was read, written again by what was found, is the same 80 elements. An
--- acceptable record is one that the record's list clears, with its mark no.
+-- acceptable record is one that the record's list clears, with its mark no and of the first picture.
 -- Assumes nothing.
 use Prim.Native.Nat.{ℕ, _+_, _^_, _<_, _≤_}
 use mathlib.Core.Path.{_≡_, refl, sym, ap, subst, _∙_}
@@ -10,7 +10,7 @@ use native.Mathlib.Omega.{arith}
 use lib.Dec.{eqb}
 use lib.ListN.{length, take, drop}
 use borrow.Author.Tests.{eqb-true, not-false}
-use Rattle.refusals.specs.Table.{wrong-length, unknown-mode, element-too-high, wrong-sync, wrong-check, outside-the-clock, skipped-address, mark-set, no-room}
+use Rattle.refusals.specs.Table.{wrong-length, unknown-mode, element-too-high, wrong-sync, wrong-check, outside-the-clock, skipped-address, unused-bit-set, mark-set, no-room}
 use Rattle.refusals.specs.Answer.{Refusal}
 use Rattle.refusals.proofs.Answered.{Clear, neither, otherwise-accepted, accepted-as}
 use Rattle.refusals.proofs.ByNumber.{clear-at, clear-from, clear-before, clear-whole}
@@ -29,11 +29,14 @@ use Rattle.record.specs.declared.types.Record.{Record}
 use Rattle.record.specs.declared.types.Unpacked.the-variants.{Holds as Held}
 use Rattle.record.specs.Record.{digitAbove9, recordOf, marked}
 use Rattle.record.specs.declared.types.Packed.the-variants.{Bits, Refused as Unpackable}
-use Rattle.record.proofs.Accepted.{Writable, writable}
+use Rattle.record.proofs.Accepted.{Writable}
 use Rattle.record.proofs.Marks.{info-below}
-use Rattle.trips.proofs.Records.{read-back, written-of-read as info-of-read}
+use Rattle.pictures.proofs.Sizes.{place-clear}
+use Rattle.trips.proofs.Records.{read-back, at-place-same, written-of-read as info-of-read}
 use Rattle.modes.specs.Calls.{informationIn, recordIn, writeRefusalsIn, packedIn, unpackedIn}
-use Rattle.modes.specs.Modes.{rateAt, withMode}
+use Rattle.modes.specs.Modes.{rateAt, picturesAt, withMode}
+use Rattle.modes.proofs.EachMode.{some-picture}
+use Rattle.modes.proofs.ByRate.{fits-of}
 use Rattle.trips.proofs.ByMode.{one-to-one}
 use Rattle.polarity.specs.declared.types.Found.{Found}
 use Rattle.polarity.specs.declared.types.Found.the-variants.{Corrected}
@@ -54,9 +57,9 @@ clear-packs : (mode : ℕ) (r : Record) → Clear (withMode mode (writeRefusalsI
 unfolding packedIn
 clear-packs mode r clear = otherwise-accepted Unpackable (Bits (informationIn mode r)) (withMode mode (writeRefusalsIn mode r)) clear
 
--- a record that a linear word can hold: the record's list clears it, and its mark is no
+-- a record that a linear word can hold: the record's list clears it, its mark is no, and it is of the first picture
 abbrev pub Acceptable : ℕ → Record → Type 0
-Acceptable mode r = Clear (withMode mode (writeRefusalsIn mode r)) × (r .flags .mark ≡ No)
+Acceptable mode r = Clear (withMode mode (writeRefusalsIn mode r)) × (r .flags .mark ≡ No) × (r .place ≡ 0)
 
 -- the polarity bit of a record's word is the mark that it was packed with
 pub bit-of-word :
@@ -64,13 +67,13 @@ pub bit-of-word :
     → polarityBit (rateAt mode) (wordWith (informationIn mode (marked bit r))) ≡ bit
 unfolding recordOf
 bit-of-word mode r clear bit =
-    let fits = writable (rateAt mode) r (clear-from outside-the-clock (withMode mode (writeRefusalsIn mode r)) clear) in
+    let fits = fits-of mode r (clear-from outside-the-clock (withMode mode (writeRefusalsIn mode r)) clear) in
     let low = info-below (rateAt mode) (marked bit r) fits in
     ap (flagAt (places (rateAt mode) .mark)) (info-of-word (informationIn mode (marked bit r)) low) ∙ ap (λ (s : Record). s .flags .mark) (read-back (rateAt mode) (marked bit r) fits)
 
 module _ (mode : ℕ) (r : Record) (ok : Acceptable mode r) where
   fits : Writable (r .address) (r .groups)
-  fits = writable (rateAt mode) r (clear-from outside-the-clock (withMode mode (writeRefusalsIn mode r)) (ok .0))
+  fits = fits-of mode r (clear-from outside-the-clock (withMode mode (writeRefusalsIn mode r)) (ok .0))
 
   -- "Reading back a written word gives its record", whichever was made, and what is found in it
   pub read-of-written : (make : Found) → readOf mode (wordOf mode r make) ≡ Holds r (foundIn (wordOf mode r make))
@@ -81,7 +84,7 @@ module _ (mode : ℕ) (r : Record) (ok : Acceptable mode r) where
       let set = marked (bit .0) r in
       let low : info < 2 ^ 64 = rw (bit .1) (info-below (rateAt mode) set fits) in
       let packed : packedIn mode set ≡ Bits info = rw (bit .1) (clear-packs mode set (ok .0)) in
-      let held : unpackedIn mode info ≡ Held set = one-to-one mode info set low .0 packed in
+      let held : unpackedIn mode info ≡ Held set = one-to-one mode info set low .0 packed .0 ∙ ap Held (at-place-same set 0 (ok .2)) in
       let mark : polarityBit (rateAt mode) (wordWith info) ≡ bit .0 =
       ap (λ (n : ℕ). polarityBit (rateAt mode) (wordWith n)) (bit .1) ∙ bit-of-word mode r (ok .0) (bit .0) in
       let right : miscorrected (rateAt mode) (wordWith info) ≡ false = rw mark (bit .2) in
@@ -133,10 +136,12 @@ module _ (mode : ℕ) (word : List ℕ) (clear : Clear (readRefusals mode word))
       let held = recordIn mode info in
       let again = info-of-read (rateAt mode) info below (clear-from outside-the-clock rows clear) in
       let eight = neither (digitAbove9 info) (outside (framesInSecond (rateAt mode)) (held .address)) (clear-at outside-the-clock rows clear) in
-      let own : Clear (writeRefusalsIn mode (marked No held)) = (rw (again .1) (eight .1), clear-from skipped-address rows clear) in
+      let place = place-clear (picturesAt mode) 0 (some-picture mode) in
+      let own : Clear (writeRefusalsIn mode (marked No held)) =
+      (rw (place .0, again .1) (eight .1), (clear-at skipped-address rows clear, (rw (place .1) (clear-at unused-bit-set rows clear), tt))) in
       let right : (oddZeros (wordWith info) && isYes (held .flags .mark)) ≡ false = rw (← whole) (clear-at wrong-check rows clear) in
-      let fits = writable (rateAt mode) (marked No held) own in (
-        ((clear-at unknown-mode rows clear, own), refl),
+      let fits = fits-of mode (marked No held) own in (
+        ((clear-at unknown-mode rows clear, own), refl, refl),
         ap (λ (w : List ℕ). wordOf mode (marked No held) (foundIn w)) whole
             ∙ ap wordWith (only-polarity mode (marked No held) fits info (held .flags .mark) (again .0) right)
             ∙ sym whole,
@@ -178,7 +183,8 @@ unfolding writtenOf writtenRows
 done-acceptable mode r start run e =
     let rows = writtenRows mode r start run in
     let clear = done-clear rows e in
-    (clear-before mark-set rows clear, is-no (r .flags .mark) (clear-at mark-set rows clear))
+    let plain = neither (isYes (r .flags .mark)) _ (clear-at mark-set rows clear) in
+    (clear-before mark-set rows clear, is-no (r .flags .mark) (plain .0), eqb-true (r .place) 0 (not-false _ (plain .1)))
 
 -- "the lent bits then read as the record": said of a write that is done, whichever was made, and of a word that was read and has room
 module _ (mode : ℕ) (r : Record) (make : Found) (start : ℕ) (run : List ℕ) where
@@ -204,5 +210,5 @@ module _ (mode : ℕ) (r : Record) (make : Found) (start : ℕ) (run : List ℕ)
   read-writes word e room =
       let rows = writtenRows mode r start run in
       let ok = written-of-read mode r make word e in
-      let clear = clear-whole mark-set rows (ok .0 .0) (ap isYes (ok .0 .1), (room-for 80 start (length run) room, tt)) in
+      let clear = clear-whole mark-set rows (ok .0 .0) (rw (ok .0 .1, ok .0 .2), (room-for 80 start (length run) room, tt)) in
       (clear-done rows clear, stored rows start (wordOf mode r make) run clear ∙ rw (ok .1))

@@ -17,7 +17,8 @@ use Rattle.refusals.proofs.Verdicts.{refused-by, sound-clear}
 use Rattle.record.specs.declared.types.Unpacked.{Unpacked}
 use Rattle.record.specs.declared.types.Unpacked.the-variants.{Refused as Unheld}
 use Rattle.modes.specs.Modes.{unknown}
-use Rattle.modes.specs.Calls.{unpackedIn}
+use Rattle.modes.specs.declared.types.Shows.the-variants.{ByMark}
+use Rattle.modes.specs.Shown.{shownIn}
 use Rattle.interval.specs.Line.{infoIn}
 use Rattle.interval.specs.Calls.{formRefusals}
 use Rattle.vitc.specs.Asked.{BitRun}
@@ -39,8 +40,8 @@ module _ (mode : ℕ) (line : List ℕ) (found : Verdict) (judged : found ≡ ve
           clean = clear-at element-too-high (formRefusals mode line) clear;
         }
 
-    pub by-record : (info : ℕ) → info ≡ infoIn line → (a : Unpacked) → a ≡ unpackedIn mode info → a ≡ readOf mode line
-    unfolding readOf unpackedIn
+    pub by-record : (info : ℕ) → info ≡ infoIn line → (a : Unpacked) → a ≡ shownIn mode ByMark info → a ≡ readOf mode line
+    unfolding readOf shownIn
     by-record info is a told =
         let known : unknown mode ≡ false = clear-at unknown-mode (formRefusals mode line) clear in
         (rw (is, known) at told) ∙ sym (otherwise-accepted Unheld _ (formRefusals mode line) clear)

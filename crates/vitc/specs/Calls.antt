@@ -1,15 +1,18 @@
 -- What each call answers: its refusals in the table's order, and then what is accepted.
 -- Assumes nothing.
 use Prim.Native.Nat.{ℕ}
-use mathlib.Core.List.{List, _++_}
-use Rattle.refusals.specs.Answer.{Refusal, answer}
+use mathlib.Core.List.{List, _∷_, _++_}
+use Rattle.refusals.specs.Table.{mark-set}
+use Rattle.refusals.specs.Answer.{Refusal, _when_, answer}
 use Rattle.runs.specs.declared.types.Written.{Written}
 use Rattle.runs.specs.Run.{writtenBy, runAfter, roomRefusals}
 use Rattle.record.specs.declared.types.Record.{Record}
 use Rattle.record.specs.declared.types.Unpacked.{Unpacked}
 use Rattle.record.specs.declared.types.Unpacked.the-variants.{Holds, Refused as Unheld}
 use Rattle.modes.specs.Modes.{withMode}
-use Rattle.modes.specs.Calls.{recordIn, informationIn, bitsRefusalsIn, writeRefusalsIn}
+use Rattle.modes.specs.declared.types.Shows.the-variants.{ByMark}
+use Rattle.modes.specs.Calls.{informationIn, bitsRefusalsIn, writeRefusalsIn}
+use Rattle.modes.specs.Shown.{shownRecord, unshown}
 use Rattle.interval.specs.Line.{infoIn, lineWith}
 use Rattle.interval.specs.Calls.{formRefusals}
 
@@ -17,12 +20,13 @@ use Rattle.interval.specs.Calls.{formRefusals}
 abbrev pub readRefusals : ℕ → List ℕ → List Refusal
 readRefusals mode line = formRefusals mode line ++ bitsRefusalsIn mode (infoIn line)
 
+-- the record, of the picture that its mark shows
 unfoldable pub readOf : ℕ → List ℕ → Unpacked
-readOf mode line = answer Unheld (readRefusals mode line) (Holds (recordIn mode (infoIn line)))
+readOf mode line = answer Unheld (readRefusals mode line) (Holds (shownRecord mode ByMark (infoIn line)))
 
--- 2 a mode that is unknown; those of the record; 12 fewer than 90 elements from the start given, or start past the end
+-- 2 a mode that is unknown; those of the record; 11 in modes 3 to 5, the mark and the pair place differ; 12 fewer than 90 elements from the start given, or start past the end
 abbrev pub writtenRows : ℕ → Record → ℕ → List ℕ → List Refusal
-writtenRows mode r start run = withMode mode (writeRefusalsIn mode r ++ roomRefusals 90 start run)
+writtenRows mode r start run = withMode mode (writeRefusalsIn mode r ++ ((mark-set when unshown mode ByMark r) ∷ roomRefusals 90 start run))
 
 unfoldable pub writtenOf : ℕ → Record → ℕ → List ℕ → Written
 writtenOf mode r start run = writtenBy (writtenRows mode r start run)

@@ -3,6 +3,7 @@ ghost use mathlib.Core.Path.{_≡_};
 ghost use Rattle.interval.specs.Line.{infoIn};
 ghost use Rattle.vitc.specs.Asked.{BitRun};
 ghost use Rattle.vitc.specs.Calls.{readOf};
+use modes::Shows;
 use record::Unpacked;
 use refusals::Verdict;
 
@@ -27,6 +28,6 @@ pub fn read(mode: u8, line: &[u8]) -> Unpacked
     let found = interval::judge(mode, line);
     match found {
         Verdict::Refused(number) => Unpacked::Refused(number),
-        Verdict::Sound => modes::from_bits(mode, information(line)),
+        Verdict::Sound => modes::picture_from_bits(mode, Shows::ByMark, information(line)),
     }
 }

@@ -1,6 +1,7 @@
 // From a record to a line in the middle of a lent run.
 ghost use mathlib.Core.Path.{_≡_};
 ghost use Rattle.vitc.specs.Calls.{writtenOf, runOf};
+use modes::Shows;
 use record::Packed;
 use record::Record;
 use runs::Written;
@@ -11,6 +12,11 @@ pub fn write(mode: u8, r: Record, start: usize, run: &mut [u8]) -> Written
     let packed = modes::to_bits(mode, r);
     match packed {
         Packed::Refused(number) => Written::Refused(number),
-        Packed::Bits(info) => interval::place(info, start, run),
+        Packed::Bits(info) => {
+            if modes::is_unshown(mode, Shows::ByMark, r) {
+                return Written::Refused(refusals::MARK_SET);
+            }
+            interval::place(info, start, run)
+        }
     }
 }

@@ -37,7 +37,7 @@ fn write_bits(carrier: Carrier, n: &Numbers, start: usize, run: &mut [u8]) -> u8
     let mode = byte(n[0]);
     let record = record_in(n);
     match carrier {
-        Carrier::Ltc => refusal(ltc::write(mode, record, make_told(n[21]), start, run)),
+        Carrier::Ltc => refusal(ltc::write(mode, record, make_told(n[22]), start, run)),
         Carrier::Vitc => refusal(vitc::write(mode, record, start, run)),
     }
 }
@@ -69,8 +69,8 @@ fn put_words_written(mode: u8, n: &Numbers, run: &mut [u16], out: &mut [u8]) -> 
     };
     let start = n[1] as usize;
     let record = record_in(n);
-    let payload_type = byte(n[21]);
-    let second = byte(n[22]);
+    let payload_type = byte(n[22]);
+    let second = byte(n[23]);
     let written = atc::write(mode, interface, record, payload_type, second, start, run);
     let next = put_written(out, refusal(written));
     put_words(out, next, run)
@@ -79,8 +79,8 @@ fn put_words_written(mode: u8, n: &Numbers, run: &mut [u16], out: &mut [u8]) -> 
 // `MODE START LENGTH RECORD`, which MAKE follows in `ltc-write`.
 fn take_bits_write(carrier: Carrier, line: &[u8], cursor: usize, n: &mut Numbers) -> bool {
     match carrier {
-        Carrier::Ltc => take_numbers(line, cursor, b"bslbbbbffffffbbbbbbbbf", n),
-        Carrier::Vitc => take_numbers(line, cursor, b"bslbbbbffffffbbbbbbbb", n),
+        Carrier::Ltc => take_numbers(line, cursor, b"bslbbbbffffffbbbbbbbbbf", n),
+        Carrier::Vitc => take_numbers(line, cursor, b"bslbbbbffffffbbbbbbbbb", n),
     }
 }
 
@@ -105,7 +105,7 @@ pub fn answer_words_write(line: &[u8], cursor: usize, out: &mut [u8]) -> usize
     let mode = number_at(line, cursor, b'b');
     let mut n = [0u64; MOST_NUMBERS];
     let mut run = [0x777u16; 400];
-    if take_numbers(line, mode.next, b"bslbbbbffffffbbbbbbbbbb", &mut n) {
+    if take_numbers(line, mode.next, b"bslbbbbffffffbbbbbbbbbbb", &mut n) {
         let length = n[2] as usize;
         if length <= 400 {
             return put_words_written(byte(mode.value), &n, &mut run[0..length], out);

@@ -53,6 +53,9 @@ returns-2 c = search barred
 enum-told-2 : tie.Need-enum-told-2
 enum-told-2 c = search needs
 
+shows-by-requires : tie.Need-shows-by-requires
+shows-by-requires c κs = search needs
+
 sub-info-in : tie.Need-sub-info-in
 sub-info-in c = search needs
 
@@ -65,8 +68,8 @@ part-info-in-end c = search to-22
 info-in-requires : tie.Need-info-in-requires
 info-in-requires c κs = search needs
 
-from-bits-requires : tie.Need-from-bits-requires
-from-bits-requires c κs = search needs
+picture-from-bits-requires : tie.Need-picture-from-bits-requires
+picture-from-bits-requires c κs = search needs
 
 packet-as-requires : tie.Need-packet-as-requires
 packet-as-requires c κs = search needs
@@ -94,10 +97,11 @@ read-spec =
     enum-known-carried
     returns-2
     enum-told-2
+    shows-by-requires
     sub-info-in
     part-info-in-start
     part-info-in-end
     info-in-requires
-    from-bits-requires
+    picture-from-bits-requires
     packet-as-requires
     returns-3)

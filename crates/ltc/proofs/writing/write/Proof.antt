@@ -32,26 +32,26 @@ enum-known-packed c = search needs
 enum-known-packed-2 : tie.Need-enum-known-packed-2
 enum-known-packed-2 c = search needs
 
-is-yes-requires : tie.Need-is-yes-requires
-is-yes-requires c κs = search needs
+has-mark-or-second-requires : tie.Need-has-mark-or-second-requires
+has-mark-or-second-requires c κs = search needs
 
 returns-2 : tie.Need-returns-2
 returns-2 c =
-    with-a-mark _ _ _ _ _ _ (c .before .before .before .before .before .before .before .before .before .rate-of .ensures) _ (c .before .before .before .before .before .before .before .rate .given .1) _ (c .before .before .before .before .before .to-bits .ensures) _ (c .before .before .before .packed2 .given .1) _ (c .before .is-yes .ensures) (search needs)
+    with-a-mark _ _ _ _ _ _ (c .before .before .before .before .before .before .before .before .before .rate-of .ensures) _ (c .before .before .before .before .before .before .before .rate .given .1) _ (c .before .before .before .before .before .to-bits .ensures) _ (c .before .before .before .packed2 .given .1) _ (c .before .has-mark-or-second .ensures) (search needs)
 
 lacks-room-requires : tie.Need-lacks-room-requires
 lacks-room-requires c κs = search needs
 
 returns-3 : tie.Need-returns-3
 returns-3 c =
-    without-room _ _ _ _ _ _ (c .before .before .before .before .before .before .before .before .before .before .before .rate-of .ensures) _ (c .before .before .before .before .before .before .before .before .before .rate .given .1) _ (c .before .before .before .before .before .before .before .to-bits .ensures) _ (c .before .before .before .before .before .packed2 .given .1) _ (c .before .before .before .is-yes .ensures) (search needs) _ (c .before .lacks-room .ensures) (search needs)
+    without-room _ _ _ _ _ _ (c .before .before .before .before .before .before .before .before .before .before .before .rate-of .ensures) _ (c .before .before .before .before .before .before .before .before .before .rate .given .1) _ (c .before .before .before .before .before .before .before .to-bits .ensures) _ (c .before .before .before .before .before .packed2 .given .1) _ (c .before .before .before .has-mark-or-second .ensures) (search needs) _ (c .before .lacks-room .ensures) (search needs)
 
 made-requires : tie.Need-made-requires
 made-requires c κs =
-    free _ 0 _ Corrected [] _ (c .before .before .before .before .before .before .before .before .before .before .before .rate-of .ensures) _ (c .before .before .before .before .before .before .before .before .before .rate .given .1) _ (c .before .before .before .before .before .before .before .to-bits .ensures) _ (c .before .before .before .before .before .packed2 .given .1) _ (c .before .before .before .is-yes .ensures) (search needs)
+    free _ 0 _ Corrected [] _ (c .before .before .before .before .before .before .before .before .before .before .before .rate-of .ensures) _ (c .before .before .before .before .before .before .before .before .before .rate .given .1) _ (c .before .before .before .before .before .before .before .to-bits .ensures) _ (c .before .before .before .before .before .packed2 .given .1) _ (c .before .before .before .has-mark-or-second .ensures) (search needs)
 
 -- once the room has been tested, the word ends within the run
-room : (c : tie.After-made) → c .before .before .before .before .before .before .before .before .before .before .before .before .before .before .before .args .start + 80 ≤ length (c .before .before .before .before .before .before .before .before .before .before .before .before .before .before .before .args .run .now)
+room : (c : tie.After-made) → c .before .before .before .before .before .before .before .before .before .before .before .before .before .before .args .start + 80 ≤ length (c .before .before .before .before .before .before .before .before .before .before .before .before .before .before .args .run .now)
 room c = room-told _ _ _ _ (c .before .before .lacks-room .ensures) (search needs)
 
 add-end : tie.Need-add-end
@@ -77,7 +77,7 @@ same-length c = search needs
 
 returns-5 : tie.Need-returns-5
 returns-5 c =
-    done _ _ _ _ _ _ (c .before .before .before .before .before .before .before .before .before .before .before .before .before .before .before .before .rate-of .ensures) _ (c .before .before .before .before .before .before .before .before .before .before .before .before .before .before .rate .given .1) _ (c .before .before .before .before .before .before .before .before .before .before .before .before .to-bits .ensures) _ (c .before .before .before .before .before .before .before .before .before .before .packed2 .given .1) _ (c .before .before .before .before .before .before .before .before .is-yes .ensures) (search needs) _ (c .before .before .before .before .before .before .lacks-room .ensures) (search needs)
+    done _ _ _ _ _ _ (c .before .before .before .before .before .before .before .before .before .before .before .before .before .before .before .before .rate-of .ensures) _ (c .before .before .before .before .before .before .before .before .before .before .before .before .before .before .rate .given .1) _ (c .before .before .before .before .before .before .before .before .before .before .before .before .to-bits .ensures) _ (c .before .before .before .before .before .before .before .before .before .before .packed2 .given .1) _ (c .before .before .before .before .before .before .before .before .has-mark-or-second .ensures) (search needs) _ (c .before .before .before .before .before .before .lacks-room .ensures) (search needs)
     _ _ (c .before .before .before .before .made .ensures) (c .before .before .store .ensures)
 
 pub write-spec : {M : Type 1} → statement M
@@ -91,7 +91,7 @@ write-spec =
     to-bits-requires
     enum-known-packed
     enum-known-packed-2
-    is-yes-requires
+    has-mark-or-second-requires
     returns-2
     lacks-room-requires
     returns-3

@@ -1,29 +1,32 @@
--- `modes::counting::distance` meets its contract: 2, and else what the clock answers at the mode's rate.
+-- `modes::counting::distance` meets its contract: 2, and else what is answered by the mode's row.
 -- Assumes nothing.
 use mathlib.Core.Path.{_≡_}
 use mathlib.Core.Bool.{Bool, true, false}
-use Prim.Native.Nat.{ℕ}
+use Prim.Native.Nat.{ℕ, _+_}
 use borrow.Author.Needs.{needs}
 use Rattle.rates.specs.declared.types.Rate.{Rate}
 use Rattle.rates.specs.declared.types.Flag.{Flag}
-use Rattle.rates.specs.declared.types.Address.{Address}
 use Rattle.clock.specs.declared.types.Span.{Span}
 use Rattle.clock.specs.declared.types.Span.the-variants.{Refused as Unmeasured}
-use Rattle.clock.specs.Calls.{spanOf}
-use Rattle.modes.specs.Modes.{unknown, rateAt}
+use Rattle.pictures.specs.declared.types.Picture.{Picture}
+use Rattle.pictures.specs.Calls.{spanOf}
+use Rattle.modes.specs.Modes.{unknown, rateAt, picturesAt}
 use Rattle.modes.specs.Calls.{spanIn}
-use Rattle.modes.proofs.InMode.{turned-away, at-its-rate}
+use Rattle.modes.proofs.InMode.{turned-away, by-its-row}
 use Rattle.modes.proofs.counting.distance.Statement.{statement}
 use Rattle.modes.proofs.counting.distance.Tie as tie
 
-module _ (mode : ℕ) (drop : Flag) (from to : Address) (past : Bool) (asked : past ≡ unknown mode) where
+module _ (mode : ℕ) (drop : Flag) (from to : Picture) (past : Bool) (asked : past ≡ unknown mode) where
   no-mode : past ≡ true → Unmeasured 2 ≡ spanIn mode drop from to
   unfolding spanIn
-  no-mode e = turned-away Unmeasured mode (λ rate. spanOf rate drop from to) past asked e
+  no-mode e = turned-away Unmeasured mode (λ rate pictures. spanOf rate pictures drop from to) past asked e
 
-  known : past ≡ false → (rate : Rate) (given : Span) → rate ≡ rateAt mode → given ≡ spanOf rate drop from to → given ≡ spanIn mode drop from to
+  known :
+      past ≡ false → (rate : Rate) (last : ℕ) (given : Span) → rate ≡ rateAt mode → last + 1 ≡ picturesAt mode
+      → given ≡ spanOf rate (last + 1) drop from to → given ≡ spanIn mode drop from to
   unfolding spanIn
-  known e rate given at told = at-its-rate Unmeasured mode (λ rate. spanOf rate drop from to) past asked e rate given at told
+  known e rate last given at share told =
+      by-its-row Unmeasured mode (λ rate pictures. spanOf rate pictures drop from to) past asked e rate last given at share told
 
 is-unknown-requires : tie.Need-is-unknown-requires
 is-unknown-requires c κs = search needs
@@ -34,6 +37,9 @@ returns c = search no-mode
 rate-at-requires : tie.Need-rate-at-requires
 rate-at-requires c κs = search needs
 
+last-place-requires : tie.Need-last-place-requires
+last-place-requires c κs = search needs
+
 distance-requires : tie.Need-distance-requires
 distance-requires c κs = search needs
 
@@ -42,4 +48,5 @@ returns-2 c = search known
 
 pub distance-spec : {M : Type 1} → statement M
 distance-spec =
-    tie.close (tie.spec is-unknown-requires returns rate-at-requires distance-requires returns-2)
+    tie.close
+    (tie.spec is-unknown-requires returns rate-at-requires last-place-requires distance-requires returns-2)

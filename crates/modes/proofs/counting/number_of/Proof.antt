@@ -1,29 +1,32 @@
--- `modes::counting::number_of` meets its contract: 2, and else what the clock answers at the mode's rate.
+-- `modes::counting::number_of` meets its contract: 2, and else what is answered by the mode's row.
 -- Assumes nothing.
 use mathlib.Core.Path.{_≡_}
 use mathlib.Core.Bool.{Bool, true, false}
-use Prim.Native.Nat.{ℕ}
+use Prim.Native.Nat.{ℕ, _+_}
 use borrow.Author.Needs.{needs}
 use Rattle.rates.specs.declared.types.Rate.{Rate}
 use Rattle.rates.specs.declared.types.Flag.{Flag}
-use Rattle.rates.specs.declared.types.Address.{Address}
 use Rattle.clock.specs.declared.types.Numbered.{Numbered}
 use Rattle.clock.specs.declared.types.Numbered.the-variants.{Refused as Unnumbered}
-use Rattle.clock.specs.Calls.{numberOf}
-use Rattle.modes.specs.Modes.{unknown, rateAt}
+use Rattle.pictures.specs.declared.types.Picture.{Picture}
+use Rattle.pictures.specs.Calls.{numberOf}
+use Rattle.modes.specs.Modes.{unknown, rateAt, picturesAt}
 use Rattle.modes.specs.Calls.{numberIn}
-use Rattle.modes.proofs.InMode.{turned-away, at-its-rate}
+use Rattle.modes.proofs.InMode.{turned-away, by-its-row}
 use Rattle.modes.proofs.counting.number_of.Statement.{statement}
 use Rattle.modes.proofs.counting.number_of.Tie as tie
 
-module _ (mode : ℕ) (drop : Flag) (a : Address) (past : Bool) (asked : past ≡ unknown mode) where
-  no-mode : past ≡ true → Unnumbered 2 ≡ numberIn mode drop a
+module _ (mode : ℕ) (drop : Flag) (p : Picture) (past : Bool) (asked : past ≡ unknown mode) where
+  no-mode : past ≡ true → Unnumbered 2 ≡ numberIn mode drop p
   unfolding numberIn
-  no-mode e = turned-away Unnumbered mode (λ rate. numberOf rate drop a) past asked e
+  no-mode e = turned-away Unnumbered mode (λ rate pictures. numberOf rate pictures drop p) past asked e
 
-  known : past ≡ false → (rate : Rate) (given : Numbered) → rate ≡ rateAt mode → given ≡ numberOf rate drop a → given ≡ numberIn mode drop a
+  known :
+      past ≡ false → (rate : Rate) (last : ℕ) (given : Numbered) → rate ≡ rateAt mode → last + 1 ≡ picturesAt mode
+      → given ≡ numberOf rate (last + 1) drop p → given ≡ numberIn mode drop p
   unfolding numberIn
-  known e rate given at told = at-its-rate Unnumbered mode (λ rate. numberOf rate drop a) past asked e rate given at told
+  known e rate last given at share told =
+      by-its-row Unnumbered mode (λ rate pictures. numberOf rate pictures drop p) past asked e rate last given at share told
 
 is-unknown-requires : tie.Need-is-unknown-requires
 is-unknown-requires c κs = search needs
@@ -34,6 +37,9 @@ returns c = search no-mode
 rate-at-requires : tie.Need-rate-at-requires
 rate-at-requires c κs = search needs
 
+last-place-requires : tie.Need-last-place-requires
+last-place-requires c κs = search needs
+
 number-of-requires : tie.Need-number-of-requires
 number-of-requires c κs = search needs
 
@@ -42,4 +48,5 @@ returns-2 c = search known
 
 pub number-of-spec : {M : Type 1} → statement M
 number-of-spec =
-    tie.close (tie.spec is-unknown-requires returns rate-at-requires number-of-requires returns-2)
+    tie.close
+    (tie.spec is-unknown-requires returns rate-at-requires last-place-requires number-of-requires returns-2)

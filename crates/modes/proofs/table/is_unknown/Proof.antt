@@ -7,7 +7,7 @@ use Rattle.modes.specs.Modes.{unknown}
 use Rattle.modes.proofs.table.is_unknown.Statement.{statement}
 use Rattle.modes.proofs.table.is_unknown.Tie as tie
 
-past-the-table : (mode : ℕ) → leb 3 mode ≡ unknown mode
+past-the-table : (mode : ℕ) → leb 6 mode ≡ unknown mode
 unfolding unknown
 past-the-table mode = refl
 

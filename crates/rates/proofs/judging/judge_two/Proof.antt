@@ -1,7 +1,7 @@
 -- `rates::judging::judge_two` meets its contract: its tests are those of the list of refusals of two addresses.
 -- Assumes nothing.
 use mathlib.Core.Path.{_≡_, _∙_}
-use mathlib.Core.Bool.{Bool, false, _||_}
+use mathlib.Core.Bool.{Bool, _||_}
 use borrow.Author.Needs.{needs}
 use Rattle.rates.specs.declared.types.Rate.{Rate}
 use Rattle.rates.specs.declared.types.Flag.{Flag}
@@ -10,16 +10,17 @@ use Rattle.refusals.specs.Answer.{verdictOf}
 use Rattle.refusals.specs.declared.types.Verdict.{Verdict}
 use Rattle.rates.specs.Rates.{isYes, framesInSecond}
 use Rattle.rates.specs.Face.{outside, skipped}
-use Rattle.rates.specs.Refused.{addressRefusals, refusalsOfTwo}
+use Rattle.rates.specs.Refused.{addressRefusals, refusalsOfTwoBesides}
 use Rattle.rates.proofs.judging.judge_two.Statement.{statement}
 use Rattle.rates.proofs.judging.judge_two.Tie as tie
 
 judged :
-    (rate : Rate) (drop : Flag) (a b : Address) (dropped out out′ skip skip′ : Bool) (found : Verdict)
+    (rate : Rate) (drop : Flag) (a b : Address) (bad unused dropped out out′ skip skip′ : Bool) (found : Verdict)
     → dropped ≡ isYes drop → out ≡ outside (framesInSecond rate) a → out′ ≡ outside (framesInSecond rate) b
     → skip ≡ skipped a → skip′ ≡ skipped b
-    → found ≡ verdictOf (addressRefusals rate dropped (out || out′) (skip || skip′) false) → found ≡ verdictOf (refusalsOfTwo rate drop a b)
-judged rate drop a b dropped out out′ skip skip′ found asked tested tested′ missed missed′ e =
+    → found ≡ verdictOf (addressRefusals rate dropped (bad || (out || out′)) (skip || skip′) unused)
+    → found ≡ verdictOf (refusalsOfTwoBesides bad unused rate drop a b)
+judged rate drop a b bad unused dropped out out′ skip skip′ found asked tested tested′ missed missed′ e =
     e ∙ rw (asked, tested, tested′, missed, missed′)
 
 is-outside-requires : tie.Need-is-outside-requires

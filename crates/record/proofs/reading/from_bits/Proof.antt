@@ -1,7 +1,7 @@
 -- `record::reading::from_bits` meets its contract: the verdict refuses as the call's list does, and what is sound is the record.
 -- Assumes nothing.
 use mathlib.Core.Path.{_≡_, ap, _∙_}
-use mathlib.Core.Bool.{Bool}
+use mathlib.Core.Bool.{Bool, false}
 use Prim.Native.Nat.{ℕ}
 use borrow.Author.Needs.{needs}
 use Rattle.refusals.specs.declared.types.Verdict.{Verdict}
@@ -18,7 +18,7 @@ use Rattle.record.proofs.reading.from_bits.Tie as tie
 
 module _
     (rate : Rate) (info : ℕ) (r : Record) (bad : Bool) (found : Verdict) (read : r ≡ recordOf rate info) (tested : bad ≡ digitAbove9 info)
-    (judged : found ≡ verdictOf (recordRefusals rate bad r)) where
+    (judged : found ≡ verdictOf (recordRefusals rate bad false r)) where
   judged-so : found ≡ verdictOf (bitsRefusals rate info)
   judged-so = judged ∙ rw (tested, read)
 

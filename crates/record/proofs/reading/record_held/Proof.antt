@@ -15,9 +15,9 @@ use Rattle.record.proofs.reading.record_held.Tie as tie
 whole :
     (rate : Rate) (info : ℕ) (a : Address) (f : Flags) (g : Groups)
     → a ≡ addressHeld info → f ≡ flagsHeld (places rate) info → g ≡ groupsHeld info
-    → record { address = a; flags = f; groups = g } ≡ recordOf rate info
+    → record { address = a; flags = f; groups = g; place = 0 } ≡ recordOf rate info
 unfolding recordOf
-whole rate info a f g at by in-four = λ i. record { address = at i; flags = by i; groups = in-four i }
+whole rate info a f g at by in-four = λ i. record { address = at i; flags = by i; groups = in-four i; place = 0 }
 
 address-held-requires : tie.Need-address-held-requires
 address-held-requires c κs = search needs

@@ -3,6 +3,7 @@
 use mathlib.Core.Path.{_≡_, sym, ap, _∙_}
 use mathlib.Core.Bool.{Bool}
 use Prim.Native.Nat.{ℕ}
+use lib.Dec.{ltb}
 use borrow.Author.Needs.{needs}
 use Rattle.rates.specs.declared.types.Rate.{Rate}
 use Rattle.refusals.specs.declared.types.Verdict.{Verdict}
@@ -18,7 +19,7 @@ use Rattle.record.proofs.writing.to_bits.Tie as tie
 
 module _
     (rate : Rate) (r : Record) (bad : Bool) (found : Verdict) (tested : bad ≡ groupAbove15 (r .groups))
-    (judged : found ≡ verdictOf (recordRefusals rate bad r)) where
+    (judged : found ≡ verdictOf (recordRefusals rate bad (ltb 0 (r .place)) r)) where
   judged-so : found ≡ verdictOf (writeRefusals rate r)
   judged-so = judged ∙ rw tested
 

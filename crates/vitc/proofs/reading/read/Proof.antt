@@ -17,8 +17,8 @@ enum-told c = search needs
 information-requires : tie.Need-information-requires
 information-requires c κs = search bit-run
 
-from-bits-requires : tie.Need-from-bits-requires
-from-bits-requires c κs = search needs
+picture-from-bits-requires : tie.Need-picture-from-bits-requires
+picture-from-bits-requires c κs = search needs
 
 returns : tie.Need-returns
 returns c = search refused
@@ -34,6 +34,6 @@ read-spec =
     enum-known-found
     enum-told
     information-requires
-    from-bits-requires
+    picture-from-bits-requires
     returns
     returns-2)
