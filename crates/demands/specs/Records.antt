@@ -33,7 +33,7 @@ FirstPicture r = r .place ≡ 0
 abbrev pub MarkSays : ℕ → Record → Type 0
 MarkSays mode r = 3 ≤ mode → r .place ≡ bitOf (r .flags .mark)
 
--- "a packet of type 1 or 2" by its mark; "type 0 keeps the mark unread"
+-- a "packet of type 1 or 2" by its mark; "type 0 keeps the mark unread"
 pub record PacketShows (mode type : ℕ) (r : Record) : Type 0 where
   pub first : type ≡ 0 → FirstPicture r
   pub by-mark : (type ≡ 0 → ⊥) → MarkSays mode r

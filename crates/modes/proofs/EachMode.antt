@@ -1,4 +1,4 @@
--- Facts over all modes: one computed test over the rows of the table, carried to each mode.
+-- Facts over all modes: a computed test over the rows of the table, carried to each mode; and which modes have which row.
 -- Assumes nothing.
 use Prim.Native.Nat.{ℕ, zero, suc, _+_, _<_, _≤_}
 use mathlib.Core.Path.{_≡_, refl, sym}

@@ -41,7 +41,7 @@ pub fn picture_from_bits(mode: u8, shows: Shows, info: u64) -> Unpacked
     }
 }
 
-// It gives no number: a writer asks it once `to_bits` has given 2 or what else comes before 11.
+// It gives no number: a writer asks it only where `to_bits` refused nothing, so that 2 and whatever else comes before 11 has been given by then.
 pub fn is_unshown(mode: u8, shows: Shows, r: Record) -> bool
     ensures { λ b. ⌜ b ≡ unshown mode shows r ⌝ }
 {

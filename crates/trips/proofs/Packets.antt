@@ -1,5 +1,5 @@
 -- Accepted packets match acceptable contents one to one: what was written reads as record, type and second byte, and what was read,
--- written again, is the same 23 words. The mark is any.
+-- written again, is the same 23 words. The mark is any in modes 0 to 2 and in type 0; elsewhere it says the picture.
 -- Assumes nothing.
 use Prim.Native.Nat.{ℕ, _+_, _^_, _<_, _≤_}
 use mathlib.Core.Path.{_≡_, ap, subst, _∙_}

@@ -1,4 +1,4 @@
--- `record::reading::record_held` meets its contract: an address, flags and groups.
+-- `record::reading::record_held` meets its contract: an address, flags and groups, and place 0.
 -- Assumes nothing.
 use mathlib.Core.Path.{_≡_}
 use Prim.Native.Nat.{ℕ}
