@@ -1,26 +1,26 @@
 -- What each test of a write leads to: its answer, and the run as it leaves it.
 -- Assumes nothing.
 use mathlib.Core.Path.{_≡_, refl, sym, _∙_}
-use mathlib.Core.Bool.{Bool, true, false}
+use mathlib.Core.Bool.{true, false}
 use Prim.Native.Nat.{ℕ}
 use mathlib.Core.List.{List}
-use Rattle.refusals.specs.Table.{unknown-mode, outside-the-clock, mark-set, no-room}
+use Rattle.refusals.specs.Table.{unknown-mode, outside-the-clock, no-room}
 use Rattle.refusals.specs.declared.types.Verdict.the-variants.{Sound, Refused as Unsound}
 use Rattle.refusals.specs.Answer.{Refusal, answer, verdictOf}
 use Rattle.refusals.proofs.Answered.{Clear, otherwise-accepted}
-use Rattle.refusals.proofs.ByNumber.{rowsBefore, clear-from, clear-whole, answer-from}
+use Rattle.refusals.proofs.ByNumber.{rowsFrom, rowsBefore, clear-from, clear-whole, answer-from}
 use Rattle.refusals.proofs.Verdicts.{refused-by, sound-clear}
 use Rattle.runs.specs.declared.types.Written.{Written}
 use Rattle.runs.specs.declared.types.Written.the-variants.{Refused as Unwritten}
 use Rattle.runs.specs.Run.{writtenBy, runAfter, roomRefusals}
 use Rattle.runs.proofs.Written.{turned-away}
 use Rattle.record.specs.declared.types.Record.{Record}
+use Rattle.record.specs.declared.types.Packed.{Packed}
 use Rattle.record.specs.declared.types.Packed.the-variants.{Bits, Refused as Unpackable}
-use Rattle.modes.specs.Modes.{unknown, withMode}
-use Rattle.modes.specs.Calls.{writeRefusalsIn, packedIn}
 use Rattle.modes.specs.declared.types.Shows.{Shows}
-use Rattle.modes.specs.Shown.{unshown}
-use Rattle.modes.proofs.Told.{refused-as, packed-is}
+use Rattle.modes.specs.Modes.{unknown}
+use Rattle.modes.specs.Shown.{carriedIn}
+use Rattle.modes.proofs.Told.{carriedRows, uncarried-as, carried-is}
 use Rattle.packets.specs.Packet.{packetWith}
 use Rattle.atc.specs.declared.types.Interface.{Interface}
 use Rattle.atc.specs.Calls.{payloadRefusals, showsBy, packetOf, writtenRows, writtenOf, runOf}
@@ -39,6 +39,10 @@ module _ (mode : ℕ) (interface : Interface) (r : Record) (type second start : 
   abbrev payload-rows : List Refusal
   payload-rows = payloadRefusals interface type second
 
+  -- the record's own, and then 11, after the mode
+  abbrev record-rows : List Refusal
+  record-rows = carriedRows mode r (showsBy type)
+
   pub no-mode : unknown mode ≡ true → Outcome (Unwritten 2) run
   unfolding writtenOf runOf
   no-mode past = turned-away rows start (packetOf mode r type second) run unknown-mode tt past
@@ -46,7 +50,7 @@ module _ (mode : ℕ) (interface : Interface) (r : Record) (type second start : 
   module _ (known : unknown mode ≡ false) where
     -- the record's own answer begins with the mode, which is known
     past-mode : {A : Type 0} (refused : ℕ → A) (accepted : A)
-        → answer refused (withMode mode (writeRefusalsIn mode r)) accepted ≡ answer refused (writeRefusalsIn mode r) accepted
+        → answer refused record-rows accepted ≡ answer refused (rowsFrom outside-the-clock record-rows) accepted
     past-mode refused accepted = rw known
 
     pub no-payload : (n : ℕ) → verdictOf payload-rows ≡ Unsound n → Outcome (Unwritten n) run
@@ -61,41 +65,33 @@ module _ (mode : ℕ) (interface : Interface) (r : Record) (type second start : 
       front : Clear (rowsBefore outside-the-clock rows)
       front = (known, sound-clear Unwritten (Unwritten 0) payload-rows (verdictOf payload-rows) refl fit)
 
-      pub no-record : (n : ℕ) → packedIn mode r ≡ Unpackable n → Outcome (Unwritten n) run
-      unfolding writtenOf runOf
-      no-record n e = (
-        refused-as mode r Unwritten _ n e ∙ past-mode Unwritten _ ∙ sym (answer-from Unwritten _ outside-the-clock rows front),
-        refused-as mode r (λ (k : ℕ). run) _ n e
-            ∙ past-mode (λ (k : ℕ). run) _
-            ∙ sym (answer-from (λ (k : ℕ). run) _ outside-the-clock rows front),
-      )
+      -- what is asked of the record is asked by the picture that a packet of the type shows
+      module _ (shows : Shows) (by : shows ≡ showsBy type) where
+        carried-so : (found : Packed) → carriedIn mode shows r ≡ found → carriedIn mode (showsBy type) r ≡ found
+        carried-so found e = rw (← by) e
 
-      module _ (info : ℕ) (e : packedIn mode r ≡ Bits info) where
-        own : Clear (writeRefusalsIn mode r)
-        own = clear-from outside-the-clock (withMode mode (writeRefusalsIn mode r)) (packed-is mode r info e .0)
+        pub no-record : (n : ℕ) → carriedIn mode shows r ≡ Unpackable n → Outcome (Unwritten n) run
+        unfolding writtenOf runOf
+        no-record n e =
+            let own = carried-so (Unpackable n) e in (
+              uncarried-as mode r (showsBy type) Unwritten _ n own ∙ past-mode Unwritten _ ∙ sym (answer-from Unwritten _ outside-the-clock rows front),
+              uncarried-as mode r (showsBy type) (λ (k : ℕ). run) _ n own
+                  ∙ past-mode (λ (k : ℕ). run) _
+                  ∙ sym (answer-from (λ (k : ℕ). run) _ outside-the-clock rows front),
+            )
 
-        module _ (shows : Shows) (by : shows ≡ showsBy type) (other : Bool) (asked : other ≡ unshown mode shows r) where
-          shown : unshown mode (showsBy type) r ≡ other
-          shown = rw (← by) (sym asked)
-
-          before-the-mark : Clear (rowsBefore mark-set rows)
-          before-the-mark = clear-whole outside-the-clock (rowsBefore mark-set rows) front own
-
-          pub another-picture : other ≡ true → Outcome (Unwritten 11) run
-          unfolding writtenOf runOf
-          another-picture t = turned-away rows start (packetOf mode r type second) run mark-set before-the-mark (shown ∙ t)
-
-          -- the packet was placed, or there was no room for it: what came back is what the write answers
-          pub placed : other ≡ false → (answered : Written) (left : List ℕ)
-              → (answered ≡ writtenBy (roomRefusals 23 start run)) × (left ≡ runAfter (roomRefusals 23 start run) start (packetWith info type second) run)
-              → Outcome answered left
-          unfolding writtenOf runOf
-          placed t answered left told =
-              let before = rowsBefore no-room rows in
-              let clear : Clear before = clear-whole mark-set before before-the-mark (shown ∙ t, tt) in
-              let word = packetOf mode r type second in (
-                told .0 ∙ sym (otherwise-accepted Unwritten (writtenBy (roomRefusals 23 start run)) before clear),
-                told .1
-                    ∙ rw (← packed-is mode r info e .1)
-                    (sym (otherwise-accepted (λ (k : ℕ). run) (runAfter (roomRefusals 23 start run) start word run) before clear)),
-              )
+        -- the packet was placed, or there was no room for it: what came back is what the write answers
+        pub placed : (info : ℕ) → carriedIn mode shows r ≡ Bits info → (answered : Written) (left : List ℕ)
+            → (answered ≡ writtenBy (roomRefusals 23 start run)) × (left ≡ runAfter (roomRefusals 23 start run) start (packetWith info type second) run)
+            → Outcome answered left
+        unfolding writtenOf runOf
+        placed info e answered left told =
+            let made = carried-is mode r (showsBy type) info (carried-so (Bits info) e) in
+            let before = rowsBefore no-room rows in
+            let clear : Clear before = clear-whole outside-the-clock before front (clear-from outside-the-clock record-rows (made .0)) in
+            let word = packetOf mode r type second in (
+              told .0 ∙ sym (otherwise-accepted Unwritten (writtenBy (roomRefusals 23 start run)) before clear),
+              told .1
+                  ∙ rw (← made .1)
+                  (sym (otherwise-accepted (λ (k : ℕ). run) (runAfter (roomRefusals 23 start run) start word run) before clear)),
+            )

@@ -4,7 +4,7 @@ use Prim.Native.Nat.{ℕ}
 use mathlib.Core.Bool.{cond}
 use mathlib.Core.List.{List, [], _∷_, _++_}
 use lib.Dec.{eqb}
-use Rattle.refusals.specs.Table.{unknown-type, impossible-line, mark-set}
+use Rattle.refusals.specs.Table.{unknown-type, impossible-line}
 use Rattle.refusals.specs.Answer.{Refusal, _when_, answer}
 use Rattle.runs.specs.declared.types.Written.{Written}
 use Rattle.runs.specs.Run.{writtenBy, runAfter, roomRefusals}
@@ -14,8 +14,8 @@ use Rattle.record.specs.declared.types.Unpacked.the-variants.{Holds as Held, Re
 use Rattle.modes.specs.Modes.{withMode}
 use Rattle.modes.specs.declared.types.Shows.{Shows}
 use Rattle.modes.specs.declared.types.Shows.the-variants.{First, ByMark}
-use Rattle.modes.specs.Calls.{informationIn, bitsRefusalsIn, writeRefusalsIn}
-use Rattle.modes.specs.Shown.{shownRecord, unshown}
+use Rattle.modes.specs.Calls.{informationIn, bitsRefusalsIn}
+use Rattle.modes.specs.Shown.{shownRecord, carriedRefusalsIn}
 use Rattle.words.specs.Words.{infoIn}
 use Rattle.packets.specs.Packet.{packetWith, dataIn, typeIn, secondIn, unknownType}
 use Rattle.packets.specs.Calls.{formRefusals}
@@ -45,7 +45,7 @@ readRefusals mode interface words = formRefusals mode words ++ contentRefusals m
 abbrev pub contentsWith : Record → ℕ → ℕ → Contents
 contentsWith r type second = record { «record» = r; «payload_type» = type; second = second }
 
--- "Reading gives record, type and second byte", the record of the picture that is shown, whatever its mark
+-- "Reading gives record, type and second byte", the record of the picture that is shown; no mark is refused
 unfoldable pub readOf : ℕ → Interface → List ℕ → Packet
 readOf mode interface words =
     answer Unread (readRefusals mode interface words)
@@ -55,8 +55,7 @@ readOf mode interface words =
 abbrev pub writtenRows : ℕ → Interface → Record → ℕ → ℕ → ℕ → List ℕ → List Refusal
 writtenRows mode interface r type second start run =
     withMode mode
-    (payloadRefusals interface type second
-    ++ (writeRefusalsIn mode r ++ ((mark-set when unshown mode (showsBy type) r) ∷ roomRefusals 23 start run)))
+    (payloadRefusals interface type second ++ (carriedRefusalsIn mode (showsBy type) r ++ roomRefusals 23 start run))
 
 unfoldable pub writtenOf : ℕ → Interface → Record → ℕ → ℕ → ℕ → List ℕ → Written
 writtenOf mode interface r type second start run = writtenBy (writtenRows mode interface r type second start run)

@@ -27,14 +27,9 @@ pub fn write(
     if let Verdict::Refused(number) = carried {
         return Written::Refused(number);
     }
-    let packed = modes::to_bits(mode, r);
+    let packed = modes::picture_to_bits(mode, payload::shows_by(payload_type), r);
     match packed {
         Packed::Refused(number) => Written::Refused(number),
-        Packed::Bits(info) => {
-            if modes::is_unshown(mode, payload::shows_by(payload_type), r) {
-                return Written::Refused(refusals::MARK_SET);
-            }
-            packets::place(info, payload_type, second, start, run)
-        }
+        Packed::Bits(info) => packets::place(info, payload_type, second, start, run),
     }
 }

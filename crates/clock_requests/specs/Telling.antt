@@ -26,6 +26,7 @@ pictureTold (Refused n) = true
 
 abbrev pub mayTell : Call → Told → Bool
 mayTell call.Number = numberTold
+mayTell call.InSecond = numberTold
 mayTell call.Address = pictureTold
 mayTell call.Distance = spanTold
 mayTell call.Add = pictureTold

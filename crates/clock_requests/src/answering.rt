@@ -20,6 +20,9 @@ fn request_named(name: &[u8]) -> Request {
     if is_same(name, b"number") {
         return Request::For(Call::Number);
     }
+    if is_same(name, b"in-second") {
+        return Request::For(Call::InSecond);
+    }
     if is_same(name, b"address") {
         return Request::For(Call::Address);
     }
@@ -49,7 +52,7 @@ fn request_named(name: &[u8]) -> Request {
 
 fn take_fields(call: Call, line: &[u8], cursor: usize, n: &mut Numbers) -> bool {
     match call {
-        Call::Number | Call::Fields => take_numbers(line, cursor, b"bfbbbbb", n),
+        Call::Number | Call::InSecond | Call::Fields => take_numbers(line, cursor, b"bfbbbbb", n),
         Call::Address => take_numbers(line, cursor, b"bfn", n),
         Call::Distance => take_numbers(line, cursor, b"bfbbbbbbbbbb", n),
         Call::Add => take_numbers(line, cursor, b"bfbbbbbc", n),

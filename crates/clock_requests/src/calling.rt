@@ -16,6 +16,7 @@ use kinds::Frames50;
 use kinds::Frames60;
 use kinds::Frames60Drop;
 use layout::flag;
+use pictures::InSecond;
 use pictures::Picture;
 use pictures::Pictured;
 use requests::Numbers;
@@ -41,6 +42,16 @@ fn number_for(n: &Numbers) -> Told
     match numbered {
         Numbered::Refused(number) => Told::Refused(number),
         Numbered::Number(frame) => Told::Number(frame.0 as u64),
+    }
+}
+
+fn in_second_for(n: &Numbers) -> Told
+    ensures { λ r. ⌜ numberTold r ≡ true ⌝ }
+{
+    let counted = modes::number_in_second(byte(n[0]), flag(n[1]), first_picture(n));
+    match counted {
+        InSecond::Refused(number) => Told::Refused(number),
+        InSecond::Number(picture) => Told::Number(picture.0 as u64),
     }
 }
 
@@ -148,6 +159,7 @@ pub fn told_for(call: Call, n: &Numbers) -> Told
 {
     match call {
         Call::Number => number_for(n),
+        Call::InSecond => in_second_for(n),
         Call::Address => picture_told(picture_for(n)),
         Call::Distance => distance_for(n),
         Call::Add => picture_told(sum_for(n)),

@@ -1,4 +1,4 @@
-// Requests for the clock: `number`, `address`, `distance`, `add`, `fields`, `kind-number`, `kind-fields`, `pair-number`, `pair-fields`.
+// Requests for the clock: `number`, `in-second`, `address`, `distance`, `add`, `fields`, `kind-number`, `kind-fields`, `pair-number`, `pair-fields`.
 //
 // types      what is asked for, and what is told
 // answering  which request a line is, and its answer

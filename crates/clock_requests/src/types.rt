@@ -3,6 +3,7 @@ use pictures::Picture;
 
 pub enum Call {
     Number,
+    InSecond,
     Address,
     Distance,
     Add,

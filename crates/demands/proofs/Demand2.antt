@@ -105,7 +105,8 @@ module _ {mode : ℕ} {drop : Flag} (counts : CountingMode mode drop) where
       ∙ every-picture-number (rateAt mode) (picturesAt mode) drop (some-picture mode) (allowed counts) n low
 
   -- "an address is turned away exactly when the clock, stepped from midnight by the standard's rule, never shows it", of a picture: by 8 or 9, or by 10 where it would have its
-  -- address to itself and is not the first. Shut out: drop-frame that skips at every minute; a place that none of the pictures has taken for one; another number for it.
+  -- address to itself and is not the first. Shut out: drop-frame that skips at every minute; a place that none of the pictures has taken for one. (Which of the numbers a place
+  -- is refused by is in Places.)
   pub turned-away-exactly :
       (p : Picture)
       → ((numberIn mode drop p ≡ Unnumbered 8)

@@ -9,22 +9,26 @@ use native.Mathlib.Omega.{arith}
 use lib.Dec.{ltb}
 use borrow.Author.Tests.{lt-ltb, le-leb}
 use Rattle.refusals.specs.Table.{unknown-mode, outside-the-clock, skipped-address, unused-bit-set, mark-set}
-use Rattle.refusals.proofs.Answered.{neither}
+use Rattle.refusals.proofs.Answered.{neither, accepted-as}
 use Rattle.refusals.proofs.ByNumber.{clear-at}
 use Rattle.rates.specs.declared.types.Flag.{Flag}
 use Rattle.rates.specs.declared.types.Flag.the-variants.{No}
-use Rattle.clock.specs.declared.types.Numbered.the-variants.{Refused as Unnumbered}
+use Rattle.clock.specs.declared.types.DayFrame.{DayFrame}
+use Rattle.clock.specs.declared.types.Numbered.the-variants.{Number, Refused as Unnumbered}
+use Rattle.midnight.proofs.Answers.{no-number}
 use Rattle.pictures.specs.declared.types.Picture.{Picture}
-use Rattle.pictures.specs.Calls.{numberOf}
+use Rattle.pictures.specs.Pictures.{picture}
+use Rattle.pictures.specs.Calls.{pictureRefusals, numberOf}
 use Rattle.record.specs.declared.types.Record.{Record}
 use Rattle.rates.specs.Rates.{isYes}
 use Rattle.record.specs.declared.types.Packed.the-variants.{Bits, Refused as Unpackable}
 use Rattle.record.specs.Record.{atPlace}
 use Rattle.modes.specs.declared.types.Shows.the-variants.{First, ByMark}
-use Rattle.modes.specs.Modes.{withMode}
+use Rattle.modes.specs.Modes.{rateAt, picturesAt, withMode}
 use Rattle.modes.specs.Calls.{numberIn, writeRefusalsIn, packedIn}
 use Rattle.modes.specs.Shown.{unshown}
 use Rattle.modes.proofs.EachMode.{alone, pairs}
+use Rattle.modes.proofs.Rows.{number-rows}
 use Rattle.modes.proofs.Told.{packed-is}
 use Rattle.polarity.specs.declared.types.Found.{Found}
 use Rattle.ltc.specs.Calls.{markOrSecond}
@@ -62,6 +66,20 @@ pub counted-place-refused-by-8 :
     (mode : ℕ) (drop : Flag) (p : Picture) → 3 ≤ mode → mode ≤ 5 → 2 ≤ p .place → numberIn mode drop p ≡ Unnumbered outside-the-clock
 unfolding numberIn numberOf
 counted-place-refused-by-8 mode drop p pair few high = rw (known-exactly mode .1 few, pairs mode pair, le-leb 2 (p .place) high)
+
+-- and in modes 0 to 2 any place but the first by 10, as of a record: of a picture whose address has a number. Shut out: 8 given for it.
+pub counted-place-refused-by-10 :
+    (mode : ℕ) (drop : Flag) (p : Picture) (n : DayFrame) → mode < 3 → numberIn mode drop (picture (p .address) 0) ≡ Number n → (p .place ≡ 0 → ⊥)
+    → numberIn mode drop p ≡ Unnumbered unused-bit-set
+unfolding numberIn numberOf
+counted-place-refused-by-10 mode drop p n few stands other =
+    let first = picture (p .address) 0 in
+    let rows = withMode mode (pictureRefusals (rateAt mode) (picturesAt mode) drop first) in
+    let clear = accepted-as Unnumbered _ rows (Number n) no-number (sym (number-rows mode drop first) ∙ stands) .0 in
+    let one = alone mode few in
+    let eight = clear-at outside-the-clock rows clear in
+    let some : ltb 0 (p .place) ≡ true = lt-ltb 0 (p .place) (omega arith) in
+    rw (clear-at unknown-mode rows clear, one, (rw one at eight), clear-at skipped-address rows clear, some)
 
 -- Document 02, A4: "In modes 3 to 5 a VITC line or packet of type 1 or 2 is refused by 11 if the record's mark and pair place differ; LTC and type 0 refuse a second picture
 -- by 11": of a record that is acceptable exactly then, whether or not there is room. Shut out: the mark unchecked on VITC; type 0 refused for its mark; a second picture

@@ -5,11 +5,11 @@ use Rattle.bits.specs.Bits.{value, toBits, howMany}
 use Rattle.runs.specs.Run.{placed}
 use Rattle.round.specs.Round.{distanceOf}
 use Rattle.clock.specs.Counting.{countOf, addressAt}
-use Rattle.pictures.specs.Calls.{numberOf, pictureOf, fieldsOf, spanOf}
+use Rattle.pictures.specs.Calls.{numberOf, inSecondOf, pictureOf, fieldsOf, spanOf}
 use Rattle.layout.specs.Layout.{join, layout}
 use Rattle.record.specs.Record.{fieldsOf as fieldsOfRecord, infoOf}
 use Rattle.modes.specs.Modes.{unknown, rateAt, picturesAt}
-use Rattle.modes.specs.Calls.{numberIn, pictureIn, fieldsIn, spanIn}
+use Rattle.modes.specs.Calls.{numberIn, inSecondIn, pictureIn, fieldsIn, spanIn}
 use Rattle.polarity.specs.Word.{syncWord, oddZeros, wordOf}
 use Rattle.ltc.specs.Calls as ltc
 use Rattle.interval.specs.Line.{each, onesFrom, groups, payload, crcOf, lineWith}
@@ -26,5 +26,5 @@ rehearsed = refl
 
 -- and those of document 02, A4
 pub pairs-rehearsed : Rehearsed pairBars
-unfolding pairBars onesAmong numberIn pictureIn numberOf pictureOf countOf addressAt value toBits howMany placed join layout fieldsOfRecord infoOf each onesFrom groups payload crcOf lineWith vitc.lineOf dataWords dataWord sum9 header checksumOf frontOf packetWith lacksEntry atc.runOf unknown rateAt picturesAt
+unfolding pairBars onesAmong numberIn inSecondIn pictureIn numberOf inSecondOf pictureOf countOf addressAt value toBits howMany placed join layout fieldsOfRecord infoOf each onesFrom groups payload crcOf lineWith vitc.lineOf dataWords dataWord sum9 header checksumOf frontOf packetWith lacksEntry atc.runOf unknown rateAt picturesAt
 pairs-rehearsed = refl

@@ -19,9 +19,11 @@ use Rattle.rates.specs.Face.{showing}
 use Rattle.pictures.specs.declared.types.Picture.{Picture}
 use Rattle.pictures.specs.declared.types.Pictured.{Pictured}
 use Rattle.pictures.specs.declared.types.Pictured.the-variants.{At, Refused as Unpictured}
+use Rattle.pictures.specs.declared.types.InSecond.{InSecond}
+use Rattle.pictures.specs.declared.types.InSecond.the-variants.{Number as Counted, Refused as Uncounted}
 use Rattle.pictures.specs.Pictures.{picture}
 use Rattle.record.specs.declared.types.Record.{Record}
-use Rattle.modes.specs.Calls.{numberIn, pictureIn, fieldsIn, spanIn}
+use Rattle.modes.specs.Calls.{numberIn, inSecondIn, pictureIn, fieldsIn, spanIn}
 use Rattle.polarity.specs.declared.types.Found.the-variants.{Corrected}
 use Rattle.ltc.specs.Calls as ltc
 use Rattle.vitc.specs.Calls as vitc
@@ -39,6 +41,10 @@ pub data Told : Type 0 where
 abbrev ofNumbered : Numbered → Told
 ofNumbered (Number n) = number (n .0)
 ofNumbered (Unnumbered n) = refusedBy n
+
+abbrev ofInSecond : InSecond → Told
+ofInSecond (Counted n) = number (n .0)
+ofInSecond (Uncounted n) = refusedBy n
 
 abbrev ofPictured : Pictured → Told
 ofPictured (At p) = shows p
@@ -67,6 +73,10 @@ ofNumber mode drop n = ofPictured (pictureIn mode drop (record { 0 = n }))
 
 abbrev numbered : ℕ → Flag → Picture → Told
 numbered mode drop p = ofNumbered (numberIn mode drop p)
+
+-- and its number within its second
+abbrev inSecond : ℕ → Flag → Picture → Told
+inSecond mode drop p = ofInSecond (inSecondIn mode drop p)
 
 -- "30 drop": the number of an address, and the address of a number
 abbrev drop30 : Address → Told
@@ -154,7 +164,7 @@ abbrev pub Rehearsed : List Bar → Type 0
 Rehearsed table = map (λ (bar : Bar). bar .told) table ≡ map (λ (bar : Bar). bar .must) table
 
 -- Document 02, A4: "Day counts are double those in document 01; 59.94 drop has 5,178,816", and what goes with it: the last picture of a day in a mode and the first
--- number that is refused; the 60 pictures of a second; the step over the skipped numbers of 59.94 drop; drop where it may not be asked for; a field outside the clock; a
+-- number that is refused; the 60 pictures of a second, and the highest number within a second in a mode; the step over the skipped numbers of 59.94 drop; drop where it may not be asked for; a field outside the clock; a
 -- place that none of a pair has, and a place where there are no pairs; and the second picture of 00:00:00:00 on a line at 50, where the mark is information bit 59, and in a
 -- packet of type 2 at 60
 abbrev secondPicture : Record
@@ -178,6 +188,12 @@ pairBars =
     ∷ (ofNumber 5 Yes 5178816 is refusedBy 14)
     ∷ (numbered 5 No (picture (showing 0 0 0 29) 1) is number 59)
     ∷ (numbered 5 No (picture (showing 0 0 1 0) 0) is number 60)
+    ∷ (inSecond 2 No (picture (showing 0 0 0 29) 0) is number 29)
+    ∷ (inSecond 3 No (picture (showing 0 0 0 23) 1) is number 47)
+    ∷ (inSecond 4 No (picture (showing 0 0 0 24) 1) is number 49)
+    ∷ (inSecond 5 No (picture (showing 0 0 0 29) 1) is number 59)
+    ∷ (inSecond 5 No (picture (showing 0 0 1 0) 0) is number 0)
+    ∷ (inSecond 5 Yes (picture (showing 0 1 0 2) 0) is number 4)
     ∷ (numbered 5 Yes (picture (showing 0 0 59 29) 1) is number 3599)
     ∷ (numbered 5 Yes (picture (showing 0 1 0 2) 0) is number 3600)
     ∷ (numbered 5 Yes (picture (showing 0 1 0 1) 1) is refusedBy 9)

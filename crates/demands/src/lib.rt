@@ -14,6 +14,7 @@
 // proofs/Accepted    a record is clear of its refusals exactly where it is acceptable
 // proofs/Pictures    which picture a word, a line or a packet shows, in the request's words
 // proofs/Places      what a place is refused by, and a mark that does not say it
+// proofs/Seconds     the number of a picture within its second
 // proofs/LineNumbers the line numbers that a packet may not claim are those that the printed table has no entry for
 //
 // What else demand 1 asks for is in the promises of the calls themselves: docs/PROMISES.md says where.

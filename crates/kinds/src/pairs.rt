@@ -1,7 +1,7 @@
 // The four counting modes in which two pictures share an address, document 02's A4: each a kind with its own pictures in a second and
 // in a day, and two constructors of a picture, from a picture number of the day and from clock fields with a place.
 //
-// An address's frames still end at 23, 24 or 29. It is the pictures of a second that are numbered up to 59, each by 2 x frames + place.
+// An address's frames still end at 23, 24 or 29. It is the pictures of a second that go up to 47, 49 or 59 (`number_in_second` of `pictures` and `modes`).
 ghost use mathlib.Core.Path.{_≡_};
 ghost use Rattle.rates.specs.declared.types.Flag.the-variants.{No, Yes};
 ghost use Rattle.rates.specs.declared.types.Rate.the-variants.{At24, At25, At30};

@@ -4,7 +4,7 @@ ghost use mathlib.Core.Path.{_≡_};
 ghost use lib.ListN.{length};
 ghost use Rattle.layout.specs.Flags.{places};
 ghost use Rattle.polarity.specs.Word.{wordWith, made};
-ghost use Rattle.ltc.specs.Calls.{markOrSecond, writtenOf, runOf};
+ghost use Rattle.ltc.specs.Calls.{writtenOf, runOf};
 use modes::Rated;
 use modes::Shows;
 use polarity::Found;
@@ -40,26 +40,19 @@ fn made(rate: Rate, make: Found, clear: u64) -> u64
     }
 }
 
-// What a linear word can't say: a mark, and any picture but the first.
-fn has_mark_or_second(mode: u8, r: Record) -> bool
-    ensures { λ b. ⌜ b ≡ markOrSecond mode r ⌝ }
-{
-    let flags = r.flags;
-    let mark = flags.mark;
-    rates::is_yes(mark) | modes::is_unshown(mode, Shows::First, r)
-}
-
 pub fn write(mode: u8, r: Record, make: Found, start: usize, run: &mut [u8]) -> Written
     ensures { λ w. ⌜ (w ≡ writtenOf mode r start (now (run .entry))) × (now (run .exit) ≡ runOf mode r make start (now (run .entry))) ⌝ }
 {
+    let flags = r.flags;
+    let mark = flags.mark;
     let Rated::Known(rate) = modes::rate_of(mode) else {
         return Written::Refused(refusals::UNKNOWN_MODE);
     };
-    let packed = modes::to_bits(mode, r);
+    let packed = modes::picture_to_bits(mode, Shows::First, r);
     match packed {
         Packed::Refused(number) => Written::Refused(number),
         Packed::Bits(clear) => {
-            if has_mark_or_second(mode, r) {
+            if rates::is_yes(mark) {
                 return Written::Refused(refusals::MARK_SET);
             }
             if runs::lacks_room(80, start, run.len()) {

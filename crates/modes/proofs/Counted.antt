@@ -10,15 +10,20 @@ use Rattle.clock.specs.declared.types.Numbered.the-variants.{Refused as Unnumbe
 use Rattle.clock.specs.declared.types.Span.the-variants.{Refused as Unmeasured}
 use Rattle.pictures.specs.declared.types.Picture.{Picture}
 use Rattle.pictures.specs.declared.types.Pictured.the-variants.{Refused as Unpictured}
-use Rattle.pictures.specs.Calls.{numberOf, pictureOf, fieldsOf, spanOf, plusOf}
+use Rattle.pictures.specs.declared.types.InSecond.the-variants.{Refused as Uncounted}
+use Rattle.pictures.specs.Calls.{numberOf, inSecondOf, pictureOf, fieldsOf, spanOf, plusOf}
 use Rattle.modes.specs.Modes.{unknown, rateAt, picturesAt}
-use Rattle.modes.specs.Calls.{numberIn, pictureIn, fieldsIn, spanIn, plusIn}
+use Rattle.modes.specs.Calls.{numberIn, inSecondIn, pictureIn, fieldsIn, spanIn, plusIn}
 use Rattle.modes.proofs.InMode.{known-is}
 
 module _ (mode : ℕ) (drop : Flag) where
   pub number-by-row : (p : Picture) → unknown mode ≡ false → numberIn mode drop p ≡ numberOf (rateAt mode) (picturesAt mode) drop p
   unfolding numberIn
   number-by-row p known = known-is Unnumbered mode (λ rate pictures. numberOf rate pictures drop p) known
+
+  pub in-second-by-row : (p : Picture) → unknown mode ≡ false → inSecondIn mode drop p ≡ inSecondOf (rateAt mode) (picturesAt mode) drop p
+  unfolding inSecondIn
+  in-second-by-row p known = known-is Uncounted mode (λ rate pictures. inSecondOf rate pictures drop p) known
 
   pub picture-by-row : (n : DayFrame) → unknown mode ≡ false → pictureIn mode drop n ≡ pictureOf (rateAt mode) (picturesAt mode) drop n
   unfolding pictureIn

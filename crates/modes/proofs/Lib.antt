@@ -1,6 +1,6 @@
 -- InMode    a call by mode answers 2, or what it answers by the mode's row
 pub mod InMode
--- EachMode  what a computed test over the rows says of every mode: an address has a picture
+-- EachMode  what a computed test over the rows says of every mode, that an address has a picture; and which modes have which row
 pub mod EachMode
 -- Counted   in a mode that is known, each call that counts answers as by the mode's row
 pub mod Counted

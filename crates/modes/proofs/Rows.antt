@@ -14,11 +14,14 @@ use Rattle.rates.specs.Rates.{isYes, framesInSecond}
 use Rattle.round.specs.Round.{distanceOf, sumOf}
 use Rattle.pictures.specs.declared.types.Picture.{Picture}
 use Rattle.pictures.specs.declared.types.Pictured.the-variants.{At, Refused as Unpictured}
-use Rattle.pictures.specs.Pictures.{picturesInDay, pictureNumber, pictureAt}
-use Rattle.pictures.specs.Calls.{pictureRefusals, twoRefusals, numberRefusals, numberOf, pictureOf, fieldsOf, spanOf, plusOf}
+use Rattle.pictures.specs.declared.types.InSecond.the-variants.{Number as Counted, Refused as Uncounted}
+use Rattle.pictures.specs.Pictures.{picturesInDay, pictureNumber, numberInSecond, pictureAt}
+use Rattle.pictures.specs.Calls.{pictureRefusals, twoRefusals, numberRefusals, numberOf, inSecondOf, pictureOf, fieldsOf, spanOf, plusOf}
 use Rattle.record.specs.declared.types.Record.{Record}
+use Rattle.modes.specs.declared.types.Shows.{Shows}
 use Rattle.modes.specs.Modes.{rateAt, picturesAt, withMode}
-use Rattle.modes.specs.Calls.{numberIn, pictureIn, fieldsIn, spanIn, plusIn, bitsRefusalsIn, writeRefusalsIn}
+use Rattle.modes.proofs.Told.{carriedRows}
+use Rattle.modes.specs.Calls.{numberIn, inSecondIn, pictureIn, fieldsIn, spanIn, plusIn, bitsRefusalsIn, writeRefusalsIn}
 
 module _ (mode : ℕ) (drop : Flag) where
   abbrev number : Picture → ℕ
@@ -36,6 +39,13 @@ module _ (mode : ℕ) (drop : Flag) where
       → numberIn mode drop p ≡ answer Unnumbered (withMode mode (pictureRefusals (rateAt mode) (picturesAt mode) drop p)) (Number (record { 0 = number p }))
   unfolding numberIn numberOf
   number-rows p = refl
+
+  pub in-second-rows :
+      (p : Picture)
+      → inSecondIn mode drop p
+      ≡ answer Uncounted (withMode mode (pictureRefusals (rateAt mode) (picturesAt mode) drop p)) (Counted (record { 0 = numberInSecond (picturesAt mode) p }))
+  unfolding inSecondIn inSecondOf
+  in-second-rows p = refl
 
   pub picture-rows :
       (n : DayFrame)
@@ -77,3 +87,6 @@ bits-rows-in-order mode info = refl
 
 pub write-rows-in-order : (mode : ℕ) (r : Record) → inOrder theOrder (withMode mode (writeRefusalsIn mode r)) ≡ true
 write-rows-in-order mode r = refl
+
+pub carried-rows-in-order : (mode : ℕ) (shows : Shows) (r : Record) → inOrder theOrder (carriedRows mode r shows) ≡ true
+carried-rows-in-order mode shows r = refl

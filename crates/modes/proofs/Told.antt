@@ -2,14 +2,17 @@
 -- Assumes nothing.
 use Prim.Native.Nat.{ℕ}
 use mathlib.Core.Path.{_≡_, sym, ap, _∙_}
+use mathlib.Core.List.{List}
 use native.Mathlib.Omega.{arith}
-use Rattle.refusals.specs.Answer.{answer}
+use Rattle.refusals.specs.Answer.{Refusal, answer}
 use Rattle.refusals.proofs.Answered.{Clear, carried, accepted-as}
 use Rattle.record.specs.declared.types.Record.{Record}
 use Rattle.record.specs.declared.types.Packed.{Packed}
 use Rattle.record.specs.declared.types.Packed.the-variants.{Bits, Refused as Unpackable}
+use Rattle.modes.specs.declared.types.Shows.{Shows}
 use Rattle.modes.specs.Modes.{withMode}
 use Rattle.modes.specs.Calls.{informationIn, writeRefusalsIn, packedIn}
+use Rattle.modes.specs.Shown.{carriedRefusalsIn, carriedIn}
 
 -- what a carrier answers on the record's answer
 told : {A : Type 0} → (ℕ → A) → A → Packed → A
@@ -20,26 +23,42 @@ bitsIn : Packed → ℕ
 bitsIn (Bits n) = n
 bitsIn (Unpackable n) = n
 
-module _ (mode : ℕ) (r : Record) where
-  module _ {A : Type 0} (refused : ℕ → A) (accepted : A) where
-    by-the-record : told refused accepted (packedIn mode r) ≡ answer refused (withMode mode (writeRefusalsIn mode r)) accepted
-    unfolding told packedIn
-    by-the-record = carried (told refused accepted) Unpackable (Bits (informationIn mode r)) (withMode mode (writeRefusalsIn mode r))
+-- of bits that a list of refusals comes before
+module _ (rows : List Refusal) (info : ℕ) where
+  refused-by-rows :
+      {A : Type 0} (refused : ℕ → A) (accepted : A) (n : ℕ) → answer Unpackable rows (Bits info) ≡ Unpackable n → refused n ≡ answer refused rows accepted
+  unfolding told
+  refused-by-rows refused accepted n e = ap (told refused accepted) (sym e) ∙ carried (told refused accepted) Unpackable (Bits info) rows
 
-    pub refused-as : (n : ℕ) → packedIn mode r ≡ Unpackable n → refused n ≡ answer refused (withMode mode (writeRefusalsIn mode r)) accepted
-    unfolding told
-    refused-as n e = ap (told refused accepted) (sym e) ∙ by-the-record
-
-    pub goes-on : (n : ℕ) → packedIn mode r ≡ Bits n → accepted ≡ answer refused (withMode mode (writeRefusalsIn mode r)) accepted
-    unfolding told
-    goes-on n e = ap (told refused accepted) (sym e) ∙ by-the-record
-
-  -- bits that were made are those of the record, which is clear of refusals
-  pub packed-is : (n : ℕ) → packedIn mode r ≡ Bits n → Clear (withMode mode (writeRefusalsIn mode r)) × (informationIn mode r ≡ n)
-  unfolding packedIn bitsIn
-  packed-is n e =
-      let taken = accepted-as Unpackable (Bits (informationIn mode r)) (withMode mode (writeRefusalsIn mode r)) (Bits n) apart e in
-      (taken .0, ap bitsIn (taken .1))
+  made-by-rows : (n : ℕ) → answer Unpackable rows (Bits info) ≡ Bits n → Clear rows × (info ≡ n)
+  unfolding bitsIn
+  made-by-rows n e = let taken = accepted-as Unpackable (Bits info) rows (Bits n) apart e in (taken .0, ap bitsIn (taken .1))
     where
       apart : (k : ℕ) → Unpackable k ≡ Bits n → ⊥
       apart k e = let z : _≡_ {A = ℕ} 0 1 = cc in omega arith
+
+module _ (mode : ℕ) (r : Record) where
+  pub refused-as :
+      {A : Type 0} (refused : ℕ → A) (accepted : A) (n : ℕ) → packedIn mode r ≡ Unpackable n
+      → refused n ≡ answer refused (withMode mode (writeRefusalsIn mode r)) accepted
+  unfolding packedIn
+  refused-as = refused-by-rows (withMode mode (writeRefusalsIn mode r)) (informationIn mode r)
+
+  -- bits that were made are those of the record, which is clear of refusals
+  pub packed-is : (n : ℕ) → packedIn mode r ≡ Bits n → Clear (withMode mode (writeRefusalsIn mode r)) × (informationIn mode r ≡ n)
+  unfolding packedIn
+  packed-is = made-by-rows (withMode mode (writeRefusalsIn mode r)) (informationIn mode r)
+
+  -- and the same where a picture is shown
+  module _ (shows : Shows) where
+    abbrev pub carriedRows : List Refusal
+    carriedRows = withMode mode (carriedRefusalsIn mode shows r)
+
+    pub uncarried-as :
+        {A : Type 0} (refused : ℕ → A) (accepted : A) (n : ℕ) → carriedIn mode shows r ≡ Unpackable n → refused n ≡ answer refused carriedRows accepted
+    unfolding carriedIn
+    uncarried-as = refused-by-rows carriedRows (informationIn mode r)
+
+    pub carried-is : (n : ℕ) → carriedIn mode shows r ≡ Bits n → Clear carriedRows × (informationIn mode r ≡ n)
+    unfolding carriedIn
+    carried-is = made-by-rows carriedRows (informationIn mode r)

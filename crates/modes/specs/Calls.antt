@@ -14,8 +14,10 @@ use Rattle.clock.specs.declared.types.Span.the-variants.{Refused as Unmeasured}
 use Rattle.pictures.specs.declared.types.Picture.{Picture}
 use Rattle.pictures.specs.declared.types.Pictured.{Pictured}
 use Rattle.pictures.specs.declared.types.Pictured.the-variants.{Refused as Unpictured}
+use Rattle.pictures.specs.declared.types.InSecond.{InSecond}
+use Rattle.pictures.specs.declared.types.InSecond.the-variants.{Refused as Uncounted}
 use Rattle.pictures.specs.Pictures.{placeOutside, placeUnused}
-use Rattle.pictures.specs.Calls.{numberOf, pictureOf, fieldsOf, spanOf, plusOf}
+use Rattle.pictures.specs.Calls.{numberOf, inSecondOf, pictureOf, fieldsOf, spanOf, plusOf}
 use Rattle.record.specs.declared.types.Record.{Record}
 use Rattle.record.specs.declared.types.Unpacked.{Unpacked}
 use Rattle.record.specs.declared.types.Unpacked.the-variants.{Holds, Refused as Unheld}
@@ -28,6 +30,9 @@ use Rattle.modes.specs.Modes.{rateAt, picturesAt, withMode, inMode}
 -- the calls that count
 unfoldable pub numberIn : ℕ → Flag → Picture → Numbered
 numberIn mode drop p = inMode Unnumbered mode (λ rate pictures. numberOf rate pictures drop p)
+
+unfoldable pub inSecondIn : ℕ → Flag → Picture → InSecond
+inSecondIn mode drop p = inMode Uncounted mode (λ rate pictures. inSecondOf rate pictures drop p)
 
 unfoldable pub pictureIn : ℕ → Flag → DayFrame → Pictured
 pictureIn mode drop n = inMode Unpictured mode (λ rate pictures. pictureOf rate pictures drop n)

@@ -30,7 +30,7 @@ table = (At24 by 1) ∷ (At25 by 1) ∷ (At30 by 1) ∷ (At24 by 2) ∷ (At25 by
 unfoldable pub unknown : ℕ → Bool
 unknown mode = leb (length table) mode
 
--- row n. What is said past the last row no call gives out as an answer of its own, since each gives 2 first (`is_unshown`, which gives no number, is asked after it)
+-- row n; what is said past the last row no call gives out, since 2 is given first
 abbrev pub rowOf : List Row → ℕ → Row
 rowOf [] n = At30 by 2
 rowOf (row ∷ rows) zero = row

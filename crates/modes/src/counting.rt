@@ -2,13 +2,14 @@
 ghost use mathlib.Core.Path.{_≡_};
 ghost use Rattle.rates.specs.Face.{showing};
 ghost use Rattle.pictures.specs.Pictures.{picture};
-ghost use Rattle.modes.specs.Calls.{numberIn, pictureIn, fieldsIn, spanIn, plusIn};
+ghost use Rattle.modes.specs.Calls.{numberIn, inSecondIn, pictureIn, fieldsIn, spanIn, plusIn};
 use crate::table::is_unknown;
 use crate::table::last_place;
 use crate::table::rate_at;
 use clock::DayFrame;
 use clock::Numbered;
 use clock::Span;
+use pictures::InSecond;
 use pictures::Picture;
 use pictures::Pictured;
 use rates::Flag;
@@ -21,6 +22,15 @@ pub fn number_of(mode: u8, drop: Flag, picture: Picture) -> Numbered
         return Numbered::Refused(refusals::UNKNOWN_MODE);
     }
     pictures::number_of(rate_at(mode), last_place(mode), drop, picture)
+}
+
+pub fn number_in_second(mode: u8, drop: Flag, picture: Picture) -> InSecond
+    ensures { λ r. ⌜ r ≡ inSecondIn mode drop picture ⌝ }
+{
+    if is_unknown(mode) {
+        return InSecond::Refused(refusals::UNKNOWN_MODE);
+    }
+    pictures::number_in_second(rate_at(mode), last_place(mode), drop, picture)
 }
 
 pub fn picture_of(mode: u8, drop: Flag, number: DayFrame) -> Pictured

@@ -13,13 +13,14 @@ mod types;
 
 pub use counting::add;
 pub use counting::distance;
+pub use counting::number_in_second;
 pub use counting::number_of;
 pub use counting::picture_from;
 pub use counting::picture_of;
 pub use packing::from_bits;
 pub use packing::to_bits;
-pub use showing::is_unshown;
 pub use showing::picture_from_bits;
+pub use showing::picture_to_bits;
 pub use table::is_unknown;
 pub use table::rate_of;
 pub use types::Rated;

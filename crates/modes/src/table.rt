@@ -30,7 +30,7 @@ pub fn rate_at(mode: u8) -> Rate
     Rate::At30
 }
 
-// The place of the last picture that shares an address, in a mode's row. An unknown mode has none: 2 is given before it is asked for, but by `is_unshown`, which gives no number.
+// The place of the last picture that shares an address, in a mode's row. An unknown mode has none: what is said here for it no call gives out, since 2 is given first.
 pub fn last_place(mode: u8) -> u8
     ensures { λ r. ⌜ r + 1 ≡ picturesAt mode ⌝ }
 {

@@ -1,6 +1,6 @@
 -- Numbers and pictures match one to one, said of what the calls answer: for every number of pictures to an address above 0 and every rate.
 -- Assumes nothing.
-use Prim.Native.Nat.{ℕ, _+_, _*_, _<_}
+use Prim.Native.Nat.{ℕ, _*_, _<_}
 use mathlib.Core.Path.{_≡_, refl, sym, ap, subst, _∙_}
 use mathlib.Core.Bool.{Bool, true, false, not, _&&_, _||_}
 use mathlib.Core.Logic.{_↔_, _⊎_, inl, inr, ⊎-elim}
@@ -14,7 +14,6 @@ use Rattle.rates.specs.declared.types.Flag.{Flag}
 use Rattle.rates.specs.Rates.{isYes, framesInSecond, mayDrop}
 use Rattle.rates.specs.Face.{outside, skipped}
 use Rattle.rates.specs.Refused.{refusalsOf}
-use Rattle.rates.proofs.Inside.{inside}
 use Rattle.clock.specs.declared.types.DayFrame.{DayFrame}
 use Rattle.clock.specs.declared.types.Numbered.{Numbered}
 use Rattle.clock.specs.declared.types.Numbered.the-variants.{Number, Refused as Unnumbered}
@@ -27,7 +26,7 @@ use Rattle.pictures.specs.declared.types.Pictured.the-variants.{At, Refu
 use Rattle.pictures.specs.Pictures.{placeOutside, placeUnused, picturesInDay, pictureNumber, pictureAt}
 use Rattle.pictures.specs.Steps.{pictureShown}
 use Rattle.pictures.specs.Calls.{pictureRefusals, numberRefusals, numberOf, pictureOf, fieldsOf}
-use Rattle.pictures.proofs.Sizes.{place-clear, unused-alone, clear-of-picture, place-of-clear, within}
+use Rattle.pictures.proofs.Sizes.{place-clear, unused-alone, clear-of-picture, place-of-clear}
 use Rattle.pictures.proofs.Shown.{shown-below, number-of-picture, picture-of-number, shown-at-number, shown-only}
 
 -- what an answer holds, and that it is no refusal
@@ -62,14 +61,6 @@ module _ (rate : Rate) (pictures : ℕ) (drop : Flag) (some : 0 < pictures) wher
   sound p clear =
       let shown = clear-address rate drop (p .address) (clear-of-picture rate drop pictures p clear) in
       record { counts = shown .0; stands = shown .1; place = place-of-clear rate drop pictures p clear some }
-
-  -- "Highest frame within a second goes from 29 to 59 where pictures are counted": counted from the second's first picture, each is below so many for each frame
-  pub within-its-second :
-      (p : Picture) → Clear (pictureRefusals rate pictures drop p) → pictures * p .address .frames .0 + p .place < pictures * framesInSecond rate
-  within-its-second p clear =
-      let out = clear-at outside-the-clock (refusalsOf rate drop (p .address)) (clear-of-picture rate drop pictures p clear) in
-      within pictures (p .address .frames .0) (p .place) (framesInSecond rate)
-      (inside (framesInSecond rate) (p .address) out .frames) (place-of-clear rate drop pictures p clear some)
 
   clear-picture :
       (isYes drop && not (mayDrop rate)) ≡ false → (p : Picture) → turnedAway (framesInSecond rate) (isYes drop) (p .address) ≡ false → p .place < pictures

@@ -1,4 +1,4 @@
--- Sizes      how large the numbers of pictures get, and what a clear list says of an address
+-- Sizes      how large the numbers of pictures get, and what a clear list says of an address and a place
 pub mod Sizes
 -- Two        two pictures are clear of refusals together exactly where each is
 pub mod Two
@@ -8,6 +8,8 @@ pub mod Divided
 pub mod Shown
 -- Answers    the same, said of what the calls answer
 pub mod Answers
+-- Seconds    the number of a picture within its second, said of what the call answers
+pub mod Seconds
 -- Moves      the distance and the sum, said of what the calls answer
 pub mod Moves
 -- Alone      with one picture to an address, a picture is an address

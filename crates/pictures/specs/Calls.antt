@@ -20,7 +20,9 @@ use Rattle.clock.specs.declared.types.Span.the-variants.{Frames, Refused as Unm
 use Rattle.pictures.specs.declared.types.Picture.{Picture}
 use Rattle.pictures.specs.declared.types.Pictured.{Pictured}
 use Rattle.pictures.specs.declared.types.Pictured.the-variants.{At, Refused as Unpictured}
-use Rattle.pictures.specs.Pictures.{placeOutside, placeUnused, picturesInDay, pictureNumber, pictureAt}
+use Rattle.pictures.specs.declared.types.InSecond.{InSecond}
+use Rattle.pictures.specs.declared.types.InSecond.the-variants.{Number as Counted, Refused as Uncounted}
+use Rattle.pictures.specs.Pictures.{placeOutside, placeUnused, picturesInDay, pictureNumber, numberInSecond, pictureAt}
 
 -- of a picture: those of its address, where its place may make 8 apply too, or 10
 abbrev pub pictureRefusals : Rate → ℕ → Flag → Picture → List Refusal
@@ -52,6 +54,11 @@ numberOf rate pictures drop p =
 abbrev pub numberTold : Numbered → ℕ
 numberTold (Number n) = n .0
 numberTold (Unnumbered k) = 0
+
+-- the number of a picture within its second
+unfoldable pub inSecondOf : Rate → ℕ → Flag → Picture → InSecond
+inSecondOf rate pictures drop p =
+    answer Uncounted (pictureRefusals rate pictures drop p) (Counted (record { 0 = numberInSecond pictures p }))
 
 -- the picture of a number
 unfoldable pub pictureOf : Rate → ℕ → Flag → DayFrame → Pictured

@@ -1,6 +1,7 @@
 -- Document 02, A4: "Add counting modes where two pictures share one address". Said of any number of pictures to an address: with one, a picture is an address.
 -- Assumes nothing.
 use Prim.Native.Nat.{ℕ, _+_, _*_, _/_, _%_}
+use mathlib.Core.Path.{_≡_}
 use mathlib.Core.Bool.{Bool, not, _&&_}
 use lib.Dec.{ltb, leb}
 use Rattle.rates.specs.declared.types.Rate.{Rate}
@@ -34,6 +35,16 @@ picturesInDay rate pictures drop = pictures * framesInDay rate drop
 -- the number of a picture: those of the addresses before its own, and its place
 abbrev pub pictureNumber : ℕ → ℕ → Bool → Picture → ℕ
 pictureNumber fps pictures drop p = pictures * countOf fps drop (p .address) + p .place
+
+-- two addresses of one second
+pub record SameSecond (a b : Address) : Type 0 where
+  pub hours : a .hours ≡ b .hours
+  pub minutes : a .minutes ≡ b .minutes
+  pub seconds : a .seconds ≡ b .seconds
+
+-- "Highest frame within a second goes from 29 to 59 where pictures are counted": the number of a picture within its second, those of the frames before its own, and its place
+abbrev pub numberInSecond : ℕ → Picture → ℕ
+numberInSecond pictures p = pictures * p .address .frames .0 + p .place
 
 -- the picture of number n
 abbrev pub pictureAt : ℕ → ℕ → Bool → ℕ → Picture

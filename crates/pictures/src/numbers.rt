@@ -1,13 +1,16 @@
-// From pictures to numbers: the number of a picture, and the distance from one picture to another.
+// From pictures to numbers: the number of a picture, of the day and within its second, and the distance from one picture to another.
 ghost use mathlib.Core.Path.{_≡_};
 ghost use Prim.Native.Nat.{_+_, _^_, _<_};
 ghost use Rattle.round.specs.Round.{distanceOf};
 ghost use Rattle.pictures.specs.Pictures.{picturesInDay};
-ghost use Rattle.pictures.specs.Calls.{numberOf, spanOf, numberTold};
+ghost use Rattle.pictures.specs.Calls.{numberOf, inSecondOf, spanOf, numberTold};
 use crate::judging::is_place_outside;
 use crate::judging::is_place_unused;
+use crate::judging::judge;
 use crate::judging::judge_two;
+use crate::types::InSecond;
 use crate::types::Picture;
+use crate::types::PictureInSecond;
 use clock::DayFrame;
 use clock::Numbered;
 use clock::Span;
@@ -41,6 +44,21 @@ pub fn number_of(rate: Rate, last: u8, drop: Flag, picture: Picture) -> Numbered
             }
             let number = (last as u32 + 1) * before.0 + picture.place as u32;
             Numbered::Number(DayFrame(number))
+        }
+    }
+}
+
+pub fn number_in_second(rate: Rate, last: u8, drop: Flag, picture: Picture) -> InSecond
+    ensures { λ r. ⌜ r ≡ inSecondOf rate (last + 1) drop picture ⌝ }
+{
+    let found = judge(rate, last, drop, picture);
+    match found {
+        Verdict::Refused(number) => InSecond::Refused(number),
+        Verdict::Sound => {
+            let address = picture.address;
+            let frames = address.frames;
+            let number = (last as u16 + 1) * frames.0 as u16 + picture.place as u16;
+            InSecond::Number(PictureInSecond(number))
         }
     }
 }

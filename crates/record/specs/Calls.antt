@@ -15,7 +15,7 @@ use Rattle.record.specs.declared.types.Packed.the-variants.{Bits, Refuse
 use Rattle.layout.specs.Flags.{unusedColour}
 use Rattle.record.specs.Record.{recordOf, infoOf, digitAbove9, groupAbove15}
 
--- 8 a field outside the clock, or what `bad` says: a digit above 9 in the bits, a group above 15 in a record; 9 at 30, drop set, one of
+-- 8 a field outside the clock, or what `bad` says: a digit above 9 in the bits, a group above 15 in a record (by mode, a place that none of a pair has); 9 at 30, drop set, one of
 -- the skipped addresses; 10 an unused bit: drop at 24 or 25, colour at 24, or what `unused` says: a place in a record
 abbrev pub recordRefusals : Rate → Bool → Bool → Record → List Refusal
 recordRefusals rate bad unused r =

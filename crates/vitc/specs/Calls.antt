@@ -1,9 +1,8 @@
 -- What each call answers: its refusals in the table's order, and then what is accepted.
 -- Assumes nothing.
 use Prim.Native.Nat.{ℕ}
-use mathlib.Core.List.{List, _∷_, _++_}
-use Rattle.refusals.specs.Table.{mark-set}
-use Rattle.refusals.specs.Answer.{Refusal, _when_, answer}
+use mathlib.Core.List.{List, _++_}
+use Rattle.refusals.specs.Answer.{Refusal, answer}
 use Rattle.runs.specs.declared.types.Written.{Written}
 use Rattle.runs.specs.Run.{writtenBy, runAfter, roomRefusals}
 use Rattle.record.specs.declared.types.Record.{Record}
@@ -11,8 +10,8 @@ use Rattle.record.specs.declared.types.Unpacked.{Unpacked}
 use Rattle.record.specs.declared.types.Unpacked.the-variants.{Holds, Refused as Unheld}
 use Rattle.modes.specs.Modes.{withMode}
 use Rattle.modes.specs.declared.types.Shows.the-variants.{ByMark}
-use Rattle.modes.specs.Calls.{informationIn, bitsRefusalsIn, writeRefusalsIn}
-use Rattle.modes.specs.Shown.{shownRecord, unshown}
+use Rattle.modes.specs.Calls.{informationIn, bitsRefusalsIn}
+use Rattle.modes.specs.Shown.{shownRecord, carriedRefusalsIn}
 use Rattle.interval.specs.Line.{infoIn, lineWith}
 use Rattle.interval.specs.Calls.{formRefusals}
 
@@ -26,7 +25,7 @@ readOf mode line = answer Unheld (readRefusals mode line) (Holds (shownRecord mo
 
 -- 2 a mode that is unknown; those of the record; 11 in modes 3 to 5, the mark and the pair place differ; 12 fewer than 90 elements from the start given, or start past the end
 abbrev pub writtenRows : ℕ → Record → ℕ → List ℕ → List Refusal
-writtenRows mode r start run = withMode mode (writeRefusalsIn mode r ++ ((mark-set when unshown mode ByMark r) ∷ roomRefusals 90 start run))
+writtenRows mode r start run = withMode mode (carriedRefusalsIn mode ByMark r ++ roomRefusals 90 start run)
 
 unfoldable pub writtenOf : ℕ → Record → ℕ → List ℕ → Written
 writtenOf mode r start run = writtenBy (writtenRows mode r start run)

@@ -9,14 +9,9 @@ use runs::Written;
 pub fn write(mode: u8, r: Record, start: usize, run: &mut [u8]) -> Written
     ensures { λ a. ⌜ (a ≡ writtenOf mode r start (now (run .entry))) × (now (run .exit) ≡ runOf mode r start (now (run .entry))) ⌝ }
 {
-    let packed = modes::to_bits(mode, r);
+    let packed = modes::picture_to_bits(mode, Shows::ByMark, r);
     match packed {
         Packed::Refused(number) => Written::Refused(number),
-        Packed::Bits(info) => {
-            if modes::is_unshown(mode, Shows::ByMark, r) {
-                return Written::Refused(refusals::MARK_SET);
-            }
-            interval::place(info, start, run)
-        }
+        Packed::Bits(info) => interval::place(info, start, run),
     }
 }

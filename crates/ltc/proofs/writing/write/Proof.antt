@@ -23,8 +23,8 @@ enum-told c = search needs
 returns : tie.Need-returns
 returns c = no-mode _ _ _ _ _ _ (c .before .before .rate-of .ensures) _ (c .enum-told .given .1)
 
-to-bits-requires : tie.Need-to-bits-requires
-to-bits-requires c κs = search needs
+picture-to-bits-requires : tie.Need-picture-to-bits-requires
+picture-to-bits-requires c κs = search needs
 
 enum-known-packed : tie.Need-enum-known-packed
 enum-known-packed c = search needs
@@ -32,26 +32,26 @@ enum-known-packed c = search needs
 enum-known-packed-2 : tie.Need-enum-known-packed-2
 enum-known-packed-2 c = search needs
 
-has-mark-or-second-requires : tie.Need-has-mark-or-second-requires
-has-mark-or-second-requires c κs = search needs
+is-yes-requires : tie.Need-is-yes-requires
+is-yes-requires c κs = search needs
 
 returns-2 : tie.Need-returns-2
 returns-2 c =
-    with-a-mark _ _ _ _ _ _ (c .before .before .before .before .before .before .before .before .before .rate-of .ensures) _ (c .before .before .before .before .before .before .before .rate .given .1) _ (c .before .before .before .before .before .to-bits .ensures) _ (c .before .before .before .packed2 .given .1) _ (c .before .has-mark-or-second .ensures) (search needs)
+    with-a-mark _ _ _ _ _ _ (c .before .before .before .before .before .before .before .before .before .rate-of .ensures) _ (c .before .before .before .before .before .before .before .rate .given .1) _ (c .before .before .before .before .before .picture-to-bits .ensures) _ (c .before .before .before .packed2 .given .1) _ (c .before .is-yes .ensures) (search needs)
 
 lacks-room-requires : tie.Need-lacks-room-requires
 lacks-room-requires c κs = search needs
 
 returns-3 : tie.Need-returns-3
 returns-3 c =
-    without-room _ _ _ _ _ _ (c .before .before .before .before .before .before .before .before .before .before .before .rate-of .ensures) _ (c .before .before .before .before .before .before .before .before .before .rate .given .1) _ (c .before .before .before .before .before .before .before .to-bits .ensures) _ (c .before .before .before .before .before .packed2 .given .1) _ (c .before .before .before .has-mark-or-second .ensures) (search needs) _ (c .before .lacks-room .ensures) (search needs)
+    without-room _ _ _ _ _ _ (c .before .before .before .before .before .before .before .before .before .before .before .rate-of .ensures) _ (c .before .before .before .before .before .before .before .before .before .rate .given .1) _ (c .before .before .before .before .before .before .before .picture-to-bits .ensures) _ (c .before .before .before .before .before .packed2 .given .1) _ (c .before .before .before .is-yes .ensures) (search needs) _ (c .before .lacks-room .ensures) (search needs)
 
 made-requires : tie.Need-made-requires
 made-requires c κs =
-    free _ 0 _ Corrected [] _ (c .before .before .before .before .before .before .before .before .before .before .before .rate-of .ensures) _ (c .before .before .before .before .before .before .before .before .before .rate .given .1) _ (c .before .before .before .before .before .before .before .to-bits .ensures) _ (c .before .before .before .before .before .packed2 .given .1) _ (c .before .before .before .has-mark-or-second .ensures) (search needs)
+    free _ 0 _ Corrected [] _ (c .before .before .before .before .before .before .before .before .before .before .before .rate-of .ensures) _ (c .before .before .before .before .before .before .before .before .before .rate .given .1) _ (c .before .before .before .before .before .before .before .picture-to-bits .ensures) _ (c .before .before .before .before .before .packed2 .given .1) _ (c .before .before .before .is-yes .ensures) (search needs)
 
 -- once the room has been tested, the word ends within the run
-room : (c : tie.After-made) → c .before .before .before .before .before .before .before .before .before .before .before .before .before .before .args .start + 80 ≤ length (c .before .before .before .before .before .before .before .before .before .before .before .before .before .before .args .run .now)
+room : (c : tie.After-made) → c .before .before .before .before .before .before .before .before .before .before .before .before .before .before .before .args .start + 80 ≤ length (c .before .before .before .before .before .before .before .before .before .before .before .before .before .before .before .args .run .now)
 room c = room-told _ _ _ _ (c .before .before .lacks-room .ensures) (search needs)
 
 add-end : tie.Need-add-end
@@ -70,14 +70,14 @@ store-requires : tie.Need-store-requires
 store-requires c κs = search needs
 
 returns-4 : tie.Need-returns-4
-returns-4 c = by-the-record _ _ _ _ _ _ (c .before .before .before .before .before .before .before .rate-of .ensures) _ (c .before .before .before .before .before .rate .given .1) _ (c .before .before .before .to-bits .ensures) _ (search needs)
+returns-4 c = by-the-record _ _ _ _ _ _ (c .before .before .before .before .before .before .before .rate-of .ensures) _ (c .before .before .before .before .before .rate .given .1) _ (c .before .before .before .picture-to-bits .ensures) _ (search needs)
 
 same-length : tie.Need-same-length
 same-length c = search needs
 
 returns-5 : tie.Need-returns-5
 returns-5 c =
-    done _ _ _ _ _ _ (c .before .before .before .before .before .before .before .before .before .before .before .before .before .before .before .before .rate-of .ensures) _ (c .before .before .before .before .before .before .before .before .before .before .before .before .before .before .rate .given .1) _ (c .before .before .before .before .before .before .before .before .before .before .before .before .to-bits .ensures) _ (c .before .before .before .before .before .before .before .before .before .before .packed2 .given .1) _ (c .before .before .before .before .before .before .before .before .has-mark-or-second .ensures) (search needs) _ (c .before .before .before .before .before .before .lacks-room .ensures) (search needs)
+    done _ _ _ _ _ _ (c .before .before .before .before .before .before .before .before .before .before .before .before .before .before .before .before .rate-of .ensures) _ (c .before .before .before .before .before .before .before .before .before .before .before .before .before .before .rate .given .1) _ (c .before .before .before .before .before .before .before .before .before .before .before .before .picture-to-bits .ensures) _ (c .before .before .before .before .before .before .before .before .before .before .packed2 .given .1) _ (c .before .before .before .before .before .before .before .before .is-yes .ensures) (search needs) _ (c .before .before .before .before .before .before .lacks-room .ensures) (search needs)
     _ _ (c .before .before .before .before .made .ensures) (c .before .before .store .ensures)
 
 pub write-spec : {M : Type 1} → statement M
@@ -88,10 +88,10 @@ write-spec =
     enum-known-rate
     enum-told
     returns
-    to-bits-requires
+    picture-to-bits-requires
     enum-known-packed
     enum-known-packed-2
-    has-mark-or-second-requires
+    is-yes-requires
     returns-2
     lacks-room-requires
     returns-3
