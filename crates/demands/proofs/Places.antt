@@ -23,13 +23,14 @@ use Rattle.record.specs.declared.types.Record.{Record}
 use Rattle.rates.specs.Rates.{isYes}
 use Rattle.record.specs.declared.types.Packed.the-variants.{Bits, Refused as Unpackable}
 use Rattle.record.specs.Record.{atPlace}
+use Rattle.modes.specs.declared.types.Shows.{Shows}
 use Rattle.modes.specs.declared.types.Shows.the-variants.{First, ByMark}
 use Rattle.modes.specs.Modes.{rateAt, picturesAt, withMode}
-use Rattle.modes.specs.Calls.{numberIn, writeRefusalsIn, packedIn}
-use Rattle.modes.specs.Shown.{unshown}
+use Rattle.modes.specs.Calls.{numberIn}
+use Rattle.modes.specs.Shown.{unshown, carriedIn}
 use Rattle.modes.proofs.EachMode.{alone, pairs}
 use Rattle.modes.proofs.Rows.{number-rows}
-use Rattle.modes.proofs.Told.{packed-is}
+use Rattle.modes.proofs.Told.{carriedRows, carried-is}
 use Rattle.polarity.specs.declared.types.Found.{Found}
 use Rattle.ltc.specs.Calls.{markOrSecond}
 use Rattle.ltc.proofs.Evened.{is-no}
@@ -44,23 +45,25 @@ use Rattle.demands.proofs.Accepted.{known-exactly, acceptable-exactly}
 use Rattle.demands.proofs.Pictures.{first-exactly, mark-says-exactly, packet-shows-exactly}
 use Rattle.demands.proofs.LineNumbers.{payload-exactly}
 
--- "Pair place 1 in a record of modes 0 to 2 is refused by 10", and any other place but the first: of a record that stands at the first. Shut out: 8 given for it, or
--- the place unread.
+-- "Pair place 1 in a record of modes 0 to 2 is refused by 10", and any other place but the first: of a record that is carried at the first, on whatever carries it. Shut out: 8
+-- given for it, or the place unread.
 pub place-refused-by-10 :
-    (mode : ℕ) (r : Record) (n : ℕ) → mode < 3 → packedIn mode (atPlace 0 r) ≡ Bits n → (FirstPicture r → ⊥) → packedIn mode r ≡ Unpackable unused-bit-set
-unfolding packedIn
-place-refused-by-10 mode r n few stands other =
-    let rows = withMode mode (writeRefusalsIn mode (atPlace 0 r)) in
-    let clear = packed-is mode (atPlace 0 r) n stands .0 in
+    (mode : ℕ) (shows : Shows) (r : Record) (n : ℕ) → mode < 3 → carriedIn mode shows (atPlace 0 r) ≡ Bits n → (FirstPicture r → ⊥)
+    → carriedIn mode shows r ≡ Unpackable unused-bit-set
+unfolding carriedIn
+place-refused-by-10 mode shows r n few stands other =
+    let rows = carriedRows mode (atPlace 0 r) shows in
+    let clear = carried-is mode (atPlace 0 r) shows n stands .0 in
     let one = alone mode few in
     let eight = clear-at outside-the-clock rows clear in
     let some : ltb 0 (r .place) ≡ true = lt-ltb 0 (r .place) (omega arith) in
     rw (clear-at unknown-mode rows clear, one, (rw one at eight), clear-at skipped-address rows clear, some)
 
 -- In modes 3 to 5 a place that is not below 2 is refused by 8, whatever else is wrong but the mode: of a record, and of a picture that is counted. Shut out: 10 given for it.
-pub place-refused-by-8 : (mode : ℕ) (r : Record) → 3 ≤ mode → mode ≤ 5 → 2 ≤ r .place → packedIn mode r ≡ Unpackable outside-the-clock
-unfolding packedIn
-place-refused-by-8 mode r pair few high = rw (known-exactly mode .1 few, pairs mode pair, le-leb 2 (r .place) high)
+pub place-refused-by-8 :
+    (mode : ℕ) (shows : Shows) (r : Record) → 3 ≤ mode → mode ≤ 5 → 2 ≤ r .place → carriedIn mode shows r ≡ Unpackable outside-the-clock
+unfolding carriedIn
+place-refused-by-8 mode shows r pair few high = rw (known-exactly mode .1 few, pairs mode pair, le-leb 2 (r .place) high)
 
 pub counted-place-refused-by-8 :
     (mode : ℕ) (drop : Flag) (p : Picture) → 3 ≤ mode → mode ≤ 5 → 2 ≤ p .place → numberIn mode drop p ≡ Unnumbered outside-the-clock

@@ -164,9 +164,9 @@ abbrev pub Rehearsed : List Bar → Type 0
 Rehearsed table = map (λ (bar : Bar). bar .told) table ≡ map (λ (bar : Bar). bar .must) table
 
 -- Document 02, A4: "Day counts are double those in document 01; 59.94 drop has 5,178,816", and what goes with it: the last picture of a day in a mode and the first
--- number that is refused; the 60 pictures of a second, and the highest number within a second in a mode; the step over the skipped numbers of 59.94 drop; drop where it may not be asked for; a field outside the clock; a
--- place that none of a pair has, and a place where there are no pairs; and the second picture of 00:00:00:00 on a line at 50, where the mark is information bit 59, and in a
--- packet of type 2 at 60
+-- number that is refused; the 60 pictures of a second; the highest number within a second in a mode, and the first in a second, that of 59.94 drop with skipped numbers too;
+-- the step over the skipped numbers of 59.94 drop; drop where it may not be asked for; a field outside the clock; a place that none of a pair has, and a place where there are
+-- no pairs; and the second picture of 00:00:00:00 on a line at 50, where the mark is information bit 59, and in a packet of type 2 at 60
 abbrev secondPicture : Record
 secondPicture =
     record {

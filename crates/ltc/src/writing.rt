@@ -52,6 +52,7 @@ pub fn write(mode: u8, r: Record, make: Found, start: usize, run: &mut [u8]) -> 
     match packed {
         Packed::Refused(number) => Written::Refused(number),
         Packed::Bits(clear) => {
+            // 11 as well: a second picture was refused by it above, and a mark is here
             if rates::is_yes(mark) {
                 return Written::Refused(refusals::MARK_SET);
             }

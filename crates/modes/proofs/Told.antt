@@ -2,17 +2,21 @@
 -- Assumes nothing.
 use Prim.Native.Nat.{ℕ}
 use mathlib.Core.Path.{_≡_, sym, ap, _∙_}
+use mathlib.Core.Bool.{false}
 use mathlib.Core.List.{List}
+use mathlib.Core.Logic.{_↔_}
 use native.Mathlib.Omega.{arith}
+use Rattle.refusals.specs.Table.{mark-set}
 use Rattle.refusals.specs.Answer.{Refusal, answer}
-use Rattle.refusals.proofs.Answered.{Clear, carried, accepted-as}
+use Rattle.refusals.proofs.Answered.{Clear, carried, otherwise-accepted, accepted-as}
+use Rattle.refusals.proofs.ByNumber.{clear-at, clear-before, clear-whole}
 use Rattle.record.specs.declared.types.Record.{Record}
 use Rattle.record.specs.declared.types.Packed.{Packed}
 use Rattle.record.specs.declared.types.Packed.the-variants.{Bits, Refused as Unpackable}
 use Rattle.modes.specs.declared.types.Shows.{Shows}
 use Rattle.modes.specs.Modes.{withMode}
 use Rattle.modes.specs.Calls.{informationIn, writeRefusalsIn, packedIn}
-use Rattle.modes.specs.Shown.{carriedRefusalsIn, carriedIn}
+use Rattle.modes.specs.Shown.{unshown, carriedRefusalsIn, carriedIn}
 
 -- what a carrier answers on the record's answer
 told : {A : Type 0} → (ℕ → A) → A → Packed → A
@@ -62,3 +66,22 @@ module _ (mode : ℕ) (r : Record) where
     pub carried-is : (n : ℕ) → carriedIn mode shows r ≡ Bits n → Clear carriedRows × (informationIn mode r ≡ n)
     unfolding carriedIn
     carried-is = made-by-rows carriedRows (informationIn mode r)
+
+    -- a record is carried by some bits exactly where it makes them and shows its picture
+    pub carried-exactly : (n : ℕ) → (carriedIn mode shows r ≡ Bits n) ↔ ((packedIn mode r ≡ Bits n) × (unshown mode shows r ≡ false))
+    unfolding carriedIn packedIn
+    carried-exactly n = (there, back)
+      where
+        there : carriedIn mode shows r ≡ Bits n → (packedIn mode r ≡ Bits n) × (unshown mode shows r ≡ false)
+        there e =
+            let made = carried-is n e in
+            let own = clear-before mark-set carriedRows (made .0) in (
+              otherwise-accepted Unpackable (Bits (informationIn mode r)) (withMode mode (writeRefusalsIn mode r)) own ∙ ap Bits (made .1),
+              clear-at mark-set carriedRows (made .0),
+            )
+
+        back : (packedIn mode r ≡ Bits n) × (unshown mode shows r ≡ false) → carriedIn mode shows r ≡ Bits n
+        back written =
+            let made = packed-is n (written .0) in
+            let whole = clear-whole mark-set carriedRows (made .0) (written .1, tt) in
+            otherwise-accepted Unpackable (Bits (informationIn mode r)) carriedRows whole ∙ ap Bits (made .1)

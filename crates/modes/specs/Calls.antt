@@ -65,7 +65,7 @@ writeRefusalsIn mode r =
     (placeUnused (picturesAt mode) (r .place))
     r
 
--- the calls of the record, each as one list: the carriers go on from it
+-- the calls of the record, each as one list, from which those that carry a picture go on
 unfoldable pub unpackedIn : ℕ → ℕ → Unpacked
 unpackedIn mode info = answer Unheld (withMode mode (bitsRefusalsIn mode info)) (Holds (recordIn mode info))
 

@@ -11,7 +11,7 @@ pub enum Rate {
     At30,
 }
 
-// A frame number within a second: a kind of its own, so that it is not mixed with a frame number of the day by accident.
+// A frame number within a second, as an address has it: a kind of its own, so that it is not mixed with a frame number of the day by accident.
 pub struct SecondFrame(pub u8);
 
 pub struct Address {

@@ -25,9 +25,9 @@ use Rattle.modes.specs.declared.types.Shows.the-variants.{First, ByMark}
 use Rattle.modes.specs.Modes.{unknown, rateAt, picturesAt, withMode}
 use Rattle.modes.specs.Calls.{recordIn, bitsRefusalsIn, writeRefusalsIn, packedIn, unpackedIn}
 use Rattle.modes.specs.AtRate.{placeLeft, atRate}
-use Rattle.modes.specs.Shown.{placeShown, shownRecord, shownIn, unshown}
+use Rattle.modes.specs.Shown.{placeShown, shownRecord, shownIn, unshown, carriedIn}
 use Rattle.modes.proofs.EachMode.{some-picture}
-use Rattle.modes.proofs.Told.{packed-is}
+use Rattle.modes.proofs.Told.{packed-is, carried-exactly}
 use Rattle.modes.proofs.ByRate.{left-unused, packs-at-rate, place-inside, place-used}
 use Rattle.modes.proofs.Shown.{shownAs, shown-is}
 use Rattle.trips.proofs.Records as rate
@@ -119,3 +119,10 @@ module _ (mode : ℕ) where
             one-to-one n (shownRecord mode shows n) low .1 (held .0, shown-below shows (recordIn mode n .flags .mark)),
             rw (eq-eqb shown shown refl),
           )
+
+  -- and so of the two calls by which pictures are carried: a record is carried by 64 bits exactly where those bits are read as the record
+  pub carried-one-to-one : (shows : Shows) (n : ℕ) (r : Record) → n < 2 ^ 64 → (carriedIn mode shows r ≡ Bits n) ↔ (shownIn mode shows n ≡ Holds r)
+  carried-one-to-one shows n r low =
+      let carried = carried-exactly mode r shows n in
+      let shown = shown-one-to-one shows n r low in
+      (λ e. shown .0 (carried .0 e), λ e. carried .1 (shown .1 e))

@@ -1,5 +1,5 @@
--- `atc::writing::write` meets its contract: the mode is tested, the type and the second byte are judged, the record refuses as its own rows do, by 11 where another picture is shown, and the rest is the
--- packet's own answer.
+-- `atc::writing::write` meets its contract: the mode is tested, the type and the second byte are judged, the record refuses as its own rows do, and by 11 where another
+-- picture is shown, and the rest is the packet's own answer.
 -- Assumes nothing.
 use borrow.Author.Needs.{needs}
 use Rattle.atc.proofs.WriteTests.{told, no-mode, no-payload, no-record, placed}
