@@ -13,15 +13,14 @@ use Rattle.refusals.proofs.Answered.{Clear, carried, otherwise-accepted}
 use Rattle.refusals.proofs.ByNumber.{rowsBefore, clear-at, answer-from}
 use Rattle.record.specs.declared.types.Record.{Record}
 use Rattle.record.specs.declared.types.Unpacked.the-variants.{Holds as Held, Refused as Unheld}
-use Rattle.modes.specs.Modes.{unknown, withMode}
-use Rattle.modes.specs.Calls.{bitsRefusalsIn}
-use Rattle.modes.specs.Shown.{shownRecord, shownIn}
+use Rattle.modes.specs.Modes.{uncounted, withCounting}
 use Rattle.words.specs.Words.{infoIn}
 use Rattle.packets.specs.Packet.{dataIn, typeIn, secondIn}
 use Rattle.packets.specs.Calls.{formRefusals}
 use Rattle.atc.specs.declared.types.Interface.{Interface}
 use Rattle.atc.specs.declared.types.Packet.the-variants.{Holds, Refused as Unread}
-use Rattle.atc.specs.Calls.{contentRefusals, readRefusals, contentsWith, showsBy, packetAs, readOf, writtenRows}
+use Rattle.atc.specs.Records.{heldIn, heldRefusals, heldFor}
+use Rattle.atc.specs.Calls.{contentRefusals, readRefusals, contentsWith, packetAs, readOf, writtenRows}
 
 module _ (mode : ℕ) (words : List ℕ) (clear : Clear (formRefusals mode words)) where
   pub size : length words ≡ 23
@@ -33,26 +32,26 @@ module _ (mode : ℕ) (interface : Interface) (words : List ℕ) where
       Clear (formRefusals mode words)
       → readOf mode interface words
       ≡ answer Unread (contentRefusals mode interface words)
-      (Holds (contentsWith (shownRecord mode (showsBy (typeIn words)) (infoIn (dataIn words))) (typeIn words) (secondIn words)))
+      (Holds (contentsWith (heldIn mode (typeIn words) (infoIn (dataIn words))) (typeIn words) (secondIn words)))
   unfolding readOf
   past-the-form = otherwise-accepted Unread _ (formRefusals mode words)
 
   -- and then the record
   pub past-the-payload :
       Clear (rowsBefore outside-the-clock (readRefusals mode interface words))
-      → readOf mode interface words ≡ packetAs (typeIn words) (secondIn words) (shownIn mode (showsBy (typeIn words)) (infoIn (dataIn words)))
-  unfolding readOf shownIn
+      → readOf mode interface words ≡ packetAs (typeIn words) (secondIn words) (heldFor mode (typeIn words) (infoIn (dataIn words)))
+  unfolding readOf heldFor
   past-the-payload before =
       let rows = readRefusals mode interface words in
       let info = infoIn (dataIn words) in
-      let own = shownRecord mode (showsBy (typeIn words)) info in
+      let own = heldIn mode (typeIn words) info in
       let held = contentsWith own (typeIn words) (secondIn words) in
-      let known : unknown mode ≡ false = clear-at unknown-mode (rowsBefore outside-the-clock rows) before in
-      let with-mode : answer Unread (bitsRefusalsIn mode info) (Holds held) ≡ answer Unread (withMode mode (bitsRefusalsIn mode info)) (Holds held) = rw known in
+      let known : uncounted mode ≡ false = clear-at unknown-mode (rowsBefore outside-the-clock rows) before in
+      let with-mode : answer Unread (heldRefusals mode info) (Holds held) ≡ answer Unread (withCounting mode (heldRefusals mode info)) (Holds held) = rw known in
       answer-from Unread (Holds held) outside-the-clock rows before
-      ∙ (with-mode ∙ sym (carried (packetAs (typeIn words) (secondIn words)) Unheld (Held own) (withMode mode (bitsRefusalsIn mode info))))
+      ∙ (with-mode ∙ sym (carried (packetAs (typeIn words) (secondIn words)) Unheld (Held own) (withCounting mode (heldRefusals mode info))))
 
--- "The lowest that applies is given": both lists follow the table's order, 19 straight after 7
+-- "The lowest that applies is given": both lists follow the table's order, 19 and 23 straight after 7
 pub read-rows-in-order : (mode : ℕ) (interface : Interface) (words : List ℕ) → inOrder theOrder (readRefusals mode interface words) ≡ true
 read-rows-in-order mode interface words = refl
 

@@ -17,13 +17,13 @@ use Rattle.runs.proofs.Written.{turned-away}
 use Rattle.record.specs.declared.types.Record.{Record}
 use Rattle.record.specs.declared.types.Packed.{Packed}
 use Rattle.record.specs.declared.types.Packed.the-variants.{Bits, Refused as Unpackable}
-use Rattle.modes.specs.declared.types.Shows.{Shows}
-use Rattle.modes.specs.Modes.{unknown}
-use Rattle.modes.specs.Shown.{carriedIn}
-use Rattle.modes.proofs.Told.{carriedRows, uncarried-as, carried-is}
+use Rattle.modes.specs.Modes.{uncounted, withCounting}
+use Rattle.modes.proofs.Told.{refused-by-rows, made-by-rows}
 use Rattle.packets.specs.Packet.{packetWith}
+use Rattle.packets.specs.Calls.{placeRefusals}
 use Rattle.atc.specs.declared.types.Interface.{Interface}
-use Rattle.atc.specs.Calls.{payloadRefusals, showsBy, packetOf, writtenRows, writtenOf, runOf}
+use Rattle.atc.specs.Records.{infoFor, carriedRefusals, madeFor}
+use Rattle.atc.specs.Calls.{payloadRefusals, packetOf, writtenRows, writtenOf, runOf}
 
 -- what a call promised of its answer, once the answer is looked at
 pub told : {A : Type 0} (given promised found : A) → given ≡ promised → given ≡ found → promised ≡ found
@@ -37,17 +37,17 @@ module _ (mode : ℕ) (interface : Interface) (r : Record) (type second start : 
   rows = writtenRows mode interface r type second start run
 
   abbrev payload-rows : List Refusal
-  payload-rows = payloadRefusals interface type second
+  payload-rows = payloadRefusals mode interface type second
 
   -- the record's own, and then 11, after the mode
   abbrev record-rows : List Refusal
-  record-rows = carriedRows mode r (showsBy type)
+  record-rows = withCounting mode (carriedRefusals mode type r)
 
-  pub no-mode : unknown mode ≡ true → Outcome (Unwritten 2) run
+  pub no-mode : uncounted mode ≡ true → Outcome (Unwritten 2) run
   unfolding writtenOf runOf
   no-mode past = turned-away rows start (packetOf mode r type second) run unknown-mode tt past
 
-  module _ (known : unknown mode ≡ false) where
+  module _ (known : uncounted mode ≡ false) where
     -- the record's own answer begins with the mode, which is known
     past-mode : {A : Type 0} (refused : ℕ → A) (accepted : A)
         → answer refused record-rows accepted ≡ answer refused (rowsFrom outside-the-clock record-rows) accepted
@@ -65,33 +65,29 @@ module _ (mode : ℕ) (interface : Interface) (r : Record) (type second start : 
       front : Clear (rowsBefore outside-the-clock rows)
       front = (known, sound-clear Unwritten (Unwritten 0) payload-rows (verdictOf payload-rows) refl fit)
 
-      -- what is asked of the record is asked by the picture that a packet of the type shows
-      module _ (shows : Shows) (by : shows ≡ showsBy type) where
-        carried-so : (found : Packed) → carriedIn mode shows r ≡ found → carriedIn mode (showsBy type) r ≡ found
-        carried-so found e = rw (← by) e
+      pub no-record : (n : ℕ) → madeFor mode type r ≡ Unpackable n → Outcome (Unwritten n) run
+      unfolding writtenOf runOf madeFor
+      no-record n e = (
+        refused-by-rows record-rows (infoFor mode r) Unwritten _ n e ∙ past-mode Unwritten _ ∙ sym (answer-from Unwritten _ outside-the-clock rows front),
+        refused-by-rows record-rows (infoFor mode r) (λ (k : ℕ). run) _ n e
+            ∙ past-mode (λ (k : ℕ). run) _
+            ∙ sym (answer-from (λ (k : ℕ). run) _ outside-the-clock rows front),
+      )
 
-        pub no-record : (n : ℕ) → carriedIn mode shows r ≡ Unpackable n → Outcome (Unwritten n) run
-        unfolding writtenOf runOf
-        no-record n e =
-            let own = carried-so (Unpackable n) e in (
-              uncarried-as mode r (showsBy type) Unwritten _ n own ∙ past-mode Unwritten _ ∙ sym (answer-from Unwritten _ outside-the-clock rows front),
-              uncarried-as mode r (showsBy type) (λ (k : ℕ). run) _ n own
-                  ∙ past-mode (λ (k : ℕ). run) _
-                  ∙ sym (answer-from (λ (k : ℕ). run) _ outside-the-clock rows front),
-            )
-
-        -- the packet was placed, or there was no room for it: what came back is what the write answers
-        pub placed : (info : ℕ) → carriedIn mode shows r ≡ Bits info → (answered : Written) (left : List ℕ)
-            → (answered ≡ writtenBy (roomRefusals 23 start run)) × (left ≡ runAfter (roomRefusals 23 start run) start (packetWith info type second) run)
-            → Outcome answered left
-        unfolding writtenOf runOf
-        placed info e answered left told =
-            let made = carried-is mode r (showsBy type) info (carried-so (Bits info) e) in
-            let before = rowsBefore no-room rows in
-            let clear : Clear before = clear-whole outside-the-clock before front (clear-from outside-the-clock record-rows (made .0)) in
-            let word = packetOf mode r type second in (
-              told .0 ∙ sym (otherwise-accepted Unwritten (writtenBy (roomRefusals 23 start run)) before clear),
-              told .1
-                  ∙ rw (← made .1)
-                  (sym (otherwise-accepted (λ (k : ℕ). run) (runAfter (roomRefusals 23 start run) start word run) before clear)),
-            )
+      -- the packet was placed, or there was no room for it: what came back is what the write answers
+      pub placed : (info : ℕ) → madeFor mode type r ≡ Bits info → (answered : Written) (left : List ℕ)
+          → (answered ≡ writtenBy (placeRefusals mode start run)) × (left ≡ runAfter (placeRefusals mode start run) start (packetWith mode info type second) run)
+          → Outcome answered left
+      unfolding writtenOf runOf madeFor
+      placed info e answered left told =
+          let made = made-by-rows record-rows (infoFor mode r) info e in
+          let before = rowsBefore no-room rows in
+          let clear : Clear before = clear-whole outside-the-clock before front (clear-from outside-the-clock record-rows (made .0)) in
+          let word = packetOf mode r type second in
+          let answered-so : answered ≡ writtenBy (roomRefusals 23 start run) = rw known at (told .0) in
+          let left-so : left ≡ runAfter (roomRefusals 23 start run) start (packetWith mode info type second) run = rw known at (told .1) in (
+            answered-so ∙ sym (otherwise-accepted Unwritten (writtenBy (roomRefusals 23 start run)) before clear),
+            left-so
+                ∙ rw (← made .1)
+                (sym (otherwise-accepted (λ (k : ℕ). run) (runAfter (roomRefusals 23 start run) start word run) before clear)),
+          )

@@ -2,7 +2,7 @@
 //
 // types      the interfaces, what a packet carries, and what a read answers
 // lines      the line numbers that a second byte may claim, by interface
-// payload    the payload types, which picture each shows, and what a type and a second byte are turned away with
+// payload    the payload types of each family, what a type and a second byte are turned away with, and the record in the 64 bits
 // reading    from 23 words to record, type and second byte
 // writing    from record, type and second byte to 23 words in the middle of a lent run
 mod lines;

@@ -62,11 +62,10 @@ pub fn read(mode: u8, interface: Interface, words: &[u16]) -> Packet
     }
     let payload_type = byte_in(&words[6..14]);
     let second = byte_in(&words[14..22]);
-    let carried = payload::judge(interface, payload_type, second);
+    let carried = payload::judge(mode, interface, payload_type, second);
     if let Verdict::Refused(number) = carried {
         return Packet::Refused(number);
     }
-    let shows = payload::shows_by(payload_type);
-    let unpacked = modes::picture_from_bits(mode, shows, info_in(&words[6..22]));
+    let unpacked = payload::record_in(mode, payload_type, info_in(&words[6..22]));
     packet_as(payload_type, second, unpacked)
 }

@@ -20,16 +20,16 @@ pub fn write(
     ensures { λ w. ⌜ (w ≡ writtenOf mode interface r «payload_type» second start (now (run .entry)))
         × (now (run .exit) ≡ runOf mode interface r «payload_type» second start (now (run .entry))) ⌝ }
 {
-    if modes::is_unknown(mode) {
+    if modes::is_uncounted(mode) {
         return Written::Refused(refusals::UNKNOWN_MODE);
     }
-    let carried = payload::judge(interface, payload_type, second);
+    let carried = payload::judge(mode, interface, payload_type, second);
     if let Verdict::Refused(number) = carried {
         return Written::Refused(number);
     }
-    let packed = modes::picture_to_bits(mode, payload::shows_by(payload_type), r);
+    let packed = payload::bits_of(mode, payload_type, r);
     match packed {
         Packed::Refused(number) => Written::Refused(number),
-        Packed::Bits(info) => packets::place(info, payload_type, second, start, run),
+        Packed::Bits(info) => packets::place(mode, info, payload_type, second, start, run),
     }
 }

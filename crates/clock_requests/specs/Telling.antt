@@ -35,3 +35,5 @@ mayTell call.KindNumber = pictureTold
 mayTell call.KindFields = pictureTold
 mayTell call.PairNumber = pictureTold
 mayTell call.PairFields = pictureTold
+mayTell call.HighNumber = pictureTold
+mayTell call.HighFields = pictureTold

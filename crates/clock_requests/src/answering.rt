@@ -47,6 +47,12 @@ fn request_named(name: &[u8]) -> Request {
     if is_same(name, b"pair-fields") {
         return Request::For(Call::PairFields);
     }
+    if is_same(name, b"high-number") {
+        return Request::For(Call::HighNumber);
+    }
+    if is_same(name, b"high-fields") {
+        return Request::For(Call::HighFields);
+    }
     Request::Another
 }
 
@@ -59,6 +65,8 @@ fn take_fields(call: Call, line: &[u8], cursor: usize, n: &mut Numbers) -> bool 
         Call::KindNumber | Call::PairNumber => take_numbers(line, cursor, b"kn", n),
         Call::KindFields => take_numbers(line, cursor, b"kbbbb", n),
         Call::PairFields => take_numbers(line, cursor, b"kbbbbb", n),
+        Call::HighNumber => take_numbers(line, cursor, b"hn", n),
+        Call::HighFields => take_numbers(line, cursor, b"hbbbbb", n),
     }
 }
 

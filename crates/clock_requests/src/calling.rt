@@ -15,6 +15,12 @@ use kinds::Frames48;
 use kinds::Frames50;
 use kinds::Frames60;
 use kinds::Frames60Drop;
+use kinds::Frames72;
+use kinds::Frames96;
+use kinds::Frames100;
+use kinds::Frames120As24x5;
+use kinds::Frames120As30x4;
+use kinds::Frames120Drop;
 use layout::flag;
 use pictures::InSecond;
 use pictures::Picture;
@@ -135,6 +141,34 @@ fn pair_fields_for(n: &Numbers) -> Pictured {
     }
 }
 
+fn high_number_for(n: &Numbers) -> Pictured {
+    let kind = n[0];
+    let number = day_frame(n[1]);
+    match kind {
+        0 => Frames72::from_number(number),
+        1 => Frames96::from_number(number),
+        2 => Frames100::from_number(number),
+        3 => Frames120As24x5::from_number(number),
+        4 => Frames120As30x4::from_number(number),
+        _ => Frames120Drop::from_number(number),
+    }
+}
+
+fn high_fields_for(n: &Numbers) -> Pictured {
+    let kind = n[0];
+    let p = picture_in(n[1], n[2], n[3], n[4], n[5]);
+    let a = p.address;
+    let frames = a.frames;
+    match kind {
+        0 => Frames72::from_fields(a.hours, a.minutes, a.seconds, frames, p.place),
+        1 => Frames96::from_fields(a.hours, a.minutes, a.seconds, frames, p.place),
+        2 => Frames100::from_fields(a.hours, a.minutes, a.seconds, frames, p.place),
+        3 => Frames120As24x5::from_fields(a.hours, a.minutes, a.seconds, frames, p.place),
+        4 => Frames120As30x4::from_fields(a.hours, a.minutes, a.seconds, frames, p.place),
+        _ => Frames120Drop::from_fields(a.hours, a.minutes, a.seconds, frames, p.place),
+    }
+}
+
 // An address that a picture has to itself: its place is 0.
 fn address_told(placed: Placed) -> Told
     ensures { λ r. ⌜ pictureTold r ≡ true ⌝ }
@@ -168,5 +202,7 @@ pub fn told_for(call: Call, n: &Numbers) -> Told
         Call::KindFields => address_told(kind_fields_for(n)),
         Call::PairNumber => picture_told(pair_number_for(n)),
         Call::PairFields => picture_told(pair_fields_for(n)),
+        Call::HighNumber => picture_told(high_number_for(n)),
+        Call::HighFields => picture_told(high_fields_for(n)),
     }
 }

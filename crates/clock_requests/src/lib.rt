@@ -1,4 +1,5 @@
-// Requests for the clock: `number`, `in-second`, `address`, `distance`, `add`, `fields`, `kind-number`, `kind-fields`, `pair-number`, `pair-fields`.
+// Requests for the clock: `number`, `in-second`, `address`, `distance`, `add`, `fields`, `kind-number`, `kind-fields`, `pair-number`, `pair-fields`, `high-number`,
+// `high-fields`.
 //
 // types      what is asked for, and what is told
 // answering  which request a line is, and its answer

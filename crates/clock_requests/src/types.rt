@@ -12,6 +12,8 @@ pub enum Call {
     KindFields,
     PairNumber,
     PairFields,
+    HighNumber,
+    HighFields,
 }
 
 pub enum Request {

@@ -11,8 +11,9 @@ use mathlib.Core.List.{List}
 use mathlib.Core.Logic.{_↔_, _⊎_}
 use native.Mathlib.Omega.{arith}
 use lib.ListN.{length, take, drop}
-use Rattle.refusals.specs.Table.{wrong-check}
+use Rattle.refusals.specs.Table.{unknown-mode, wrong-check}
 use Rattle.refusals.proofs.Answered.{Clear}
+use Rattle.refusals.proofs.ByNumber.{clear-at}
 use Rattle.bits.specs.Bits.{someAbove}
 use Rattle.runs.specs.declared.types.Written.the-variants.{Refused as Unwritten}
 use Rattle.runs.specs.Run.{placed}
@@ -33,7 +34,7 @@ use Rattle.record.specs.declared.types.Record.{Record}
 use Rattle.midnight.specs.Steps.{shown}
 use Rattle.rates.specs.Rates.{isYes, framesInSecond, mayDrop}
 use Rattle.record.specs.Record.{marked}
-use Rattle.modes.specs.Modes.{unknown, rateAt, picturesAt}
+use Rattle.modes.specs.Modes.{unknown, uncounted, highRate, rateAt, picturesAt}
 use Rattle.modes.specs.Calls.{numberIn, pictureIn, informationIn}
 use Rattle.modes.proofs.EachMode.{some-picture}
 use Rattle.modes.proofs.Counted.{number-by-row, picture-by-row}
@@ -55,15 +56,18 @@ use Rattle.atc.specs.declared.types.Packet.the-variants.{Refused as Turned}
 use Rattle.atc.specs.declared.types.Interface.the-variants.{HighDefinition}
 use Rattle.atc.specs.Calls.{packetOf, writtenOf, runOf, readOf as packetRead}
 use Rattle.trips.proofs.Packets as atc
-use Rattle.trips.proofs.Nineteen.{read-refused-by-19, written-refused-by-19}
+use Rattle.trips.proofs.Nineteen.{read-refused-by-19, read-refused-by-23, written-refused-by-19, written-refused-by-23}
 use Rattle.demands.specs.Modes.{CountingMode}
-use Rattle.demands.specs.Records.{Acceptable, MarkSays}
+use Rattle.demands.specs.Records.{Acceptable, OnLines, MarkSays}
 use Rattle.demands.specs.Table4.{ClaimsImpossibleLine}
+use Rattle.demands.specs.Families.{PayloadType, Names}
 use Rattle.demands.specs.Carriers.{Carrier, linear, withBit, bitFor, FoundAsMade, interval, ancillary, only, Accepting, Reading, Matches}
 use Rattle.demands.proofs.Demand1.{linear-room, interval-room, ancillary-room}
-use Rattle.demands.proofs.Accepted.{known, allowed, acceptable-exactly}
-use Rattle.demands.proofs.Pictures.{mark-says-exactly, packet-shows-exactly}
-use Rattle.demands.proofs.LineNumbers.{impossible-exactly, possible, payload-exactly}
+use Rattle.demands.proofs.Accepted.{known, counted-exactly, low-exactly, allowed, on-lines-exactly}
+use Rattle.demands.proofs.Pictures.{mark-says-exactly}
+use Rattle.demands.proofs.LineNumbers.{impossible-exactly, possible}
+use Rattle.demands.proofs.Families.{type-exactly, misnamed-exactly}
+use Rattle.demands.proofs.Packets.{packet-exactly}
 
 -- For every N above 0 and every rate: n pictures after midnight show the address that the clock shows n / N steps after midnight, and the place n % N. Shut out: places
 -- counted down.
@@ -189,18 +193,18 @@ linear-laws make =
       sized = λ mode r word reads. ltc.long mode word (ltc.read-clear mode r make word reads .0);
       taken =
           λ mode r word reads. (let again = ltc.written-of-read mode r make word reads in
-          ((acceptable-exactly mode r .0 (again .0 .0), again .0 .1, again .0 .2), made-as-found make mode r word reads));
+          ((on-lines-exactly mode r .0 (again .0 .0), again .0 .1, again .0 .2), made-as-found make mode r word reads));
       elementsOf = λ mode r. wordOf mode r make;
       reads =
-          λ mode r ok. (let able : ltc.Acceptable mode r = (acceptable-exactly mode r .1 (ok .0 .0), ok .0 .1, ok .0 .2) in
+          λ mode r ok. (let able : ltc.Acceptable mode r = (on-lines-exactly mode r .1 (ok .0 .0), ok .0 .1, ok .0 .2) in
           rw (found-as-made make mode r able (ok .1)) at (ltc.read-of-written mode r able make));
     }
 
 -- a line can hold a record exactly where the record is acceptable and its mark says its picture
-line-exactly : (mode : ℕ) (r : Record) → vitc.Acceptable mode r ↔ (Acceptable mode r × MarkSays mode r)
+line-exactly : (mode : ℕ) (r : Record) → vitc.Acceptable mode r ↔ (OnLines mode r × MarkSays mode r)
 line-exactly mode r = (
-  λ able. (let ok = acceptable-exactly mode r .0 (able .0) in (ok, mark-says-exactly mode r ok .0 (able .1))),
-  λ ok. (acceptable-exactly mode r .1 (ok .0), mark-says-exactly mode r (ok .0) .1 (ok .1)),
+  λ able. (let ok = on-lines-exactly mode r .0 (able .0) in (ok, mark-says-exactly mode r (ok .1) (ok .0) .0 (able .1))),
+  λ ok. (on-lines-exactly mode r .1 (ok .0), mark-says-exactly mode r (ok .0 .1) (ok .0 .0) .1 (ok .1)),
 )
 
 interval-laws : Laws interval
@@ -229,17 +233,12 @@ ancillary-laws interface =
       taken =
           λ mode c words reads.
           (let again = atc.written-of-read mode interface words (c .«record») (c .«payload_type») (c .second) reads in
-          let fits = payload-exactly interface (c .«payload_type») (c .second) .0 (again .0 .1) in
-          let able = acceptable-exactly mode (c .«record») .0 (again .0 .0) in
-          let shows = packet-shows-exactly mode (c .«record») able (c .«payload_type») .0 (again .0 .2) in
-          (able, fits .0, atc.read-sized mode interface words c reads .1, fits .1, shows));
+          let able = packet-exactly mode interface c .0 (again .0) in
+          (able .0, able .1 .0, atc.read-sized mode interface words c reads .1, able .1 .1, able .2, able .1 .2));
       elementsOf = λ mode c. packetOf mode (c .«record») (c .«payload_type») (c .second);
       reads =
-          λ mode c ok. atc.read-of-written mode interface (c .«record») (c .«payload_type») (c .second) (
-            acceptable-exactly mode (c .«record») .1 (ok .0),
-            payload-exactly interface (c .«payload_type») (c .second) .1 (ok .1, ok .3),
-            packet-shows-exactly mode (c .«record») (ok .0) (c .«payload_type») .1 (ok .4),
-          ) (ok .2);
+          λ mode c ok. atc.read-of-written mode interface (c .«record») (c .«payload_type») (c .second)
+          (packet-exactly mode interface c .1 (ok .0, (ok .1, ok .3, ok .5), ok .4)) (ok .2);
     }
 
 -- "Words on the linear track, vertical interval lines and ancillary packets .. read or written". A write is done exactly where there is
@@ -280,8 +279,8 @@ pub linear-leaves :
 linear-leaves make mode r start run done = ltc.done-leaves mode r make start run done ∙ ap (λ (word : List ℕ). placed start word run) (word-by-bit make mode r)
 
 -- and that is its polarity bit
-pub linear-bit : (bit : Flag) (mode : ℕ) (r : Record) → Acceptable mode r → polarityBit (rateAt mode) (withBit bit mode r) ≡ bit
-linear-bit bit mode r ok = ltc.bit-of-word mode r (acceptable-exactly mode r .1 ok) bit
+pub linear-bit : (bit : Flag) (mode : ℕ) (r : Record) → OnLines mode r → polarityBit (rateAt mode) (withBit bit mode r) ≡ bit
+linear-bit bit mode r ok = ltc.bit-of-word mode r (on-lines-exactly mode r .1 ok) bit
 
 -- "Reading back a written word gives its record": whichever was made, with what its zeros say was found. Shut out, with the above: a reader that refuses each
 -- uncorrected word.
@@ -315,25 +314,55 @@ interval-matches = matches interval interval-laws
 pub ancillary-matches : (interface : Interface) → Matches (ancillary interface)
 ancillary-matches interface = matches (ancillary interface) (ancillary-laws interface)
 
--- where a number is given exactly if the form is right and its test holds, the test may be said in the request's words
-as-claimed : {Given Form Applies Claims : Type 0} → Given ↔ (Form × Applies) → Applies ↔ Claims → Given ↔ (Form × Claims)
-as-claimed exactly claimed = (λ e. (exactly .0 e .0, claimed .0 (exactly .0 e .1)), λ both. exactly .1 (both .0, claimed .1 (both .1)))
+-- where a number is given exactly if what comes before is right and its own test holds, the test may be said in the request's words
+as-claimed : {Given Before Applies Claims : Type 0} → Given ↔ (Before × Applies) → (Before → Applies ↔ Claims) → Given ↔ (Before × Claims)
+as-claimed exactly claimed = (
+  λ e. (let is = exactly .0 e in (is .0, claimed (is .0) .0 (is .1))),
+  λ both. exactly .1 (both .0, claimed (both .0) .1 (both .1)),
+)
+
+both-exactly : {A B C D : Type 0} → A ↔ C → B ↔ D → (A × B) ↔ (C × D)
+both-exactly first second = (λ both. (first .0 (both .0), second .0 (both .1)), λ both. (first .1 (both .0), second .1 (both .1)))
+
+-- words that have the form of a packet are in a mode that is counted
+form-counted : (mode : ℕ) (words : List ℕ) → Clear (formRefusals mode words) → mode ≤ 10
+form-counted mode words clear = counted-exactly mode .0 (clear-at unknown-mode (formRefusals mode words) clear)
 
 -- Document 02, A9: "For types 1 and 2 on 525 or 625 line interfaces, refuse by a new number 19 any second byte whose low six bits have no entry in Table 4": of words
--- that have the form of a packet exactly then, whatever record they carry ("It is checked after 7"), and so of a write in a mode that is known. Shut out: type 0 or
+-- that have the form of a packet in modes 0 to 5 exactly then, whatever record they carry ("It is checked after 7"), and so of a write. Shut out: type 0 or
 -- high definition checked; 8 given where 19 applies too; another table.
 pub ancillary-refused-by-19 :
     (interface : Interface) (mode : ℕ) (words : List ℕ)
     → (packetRead mode interface words ≡ Turned 19)
-    ↔ (Clear (formRefusals mode words) × ClaimsImpossibleLine interface (typeIn words) (secondIn words))
+    ↔ (Clear (formRefusals mode words) × ((mode ≤ 5) × ClaimsImpossibleLine interface (typeIn words) (secondIn words)))
 ancillary-refused-by-19 interface mode words =
-    as-claimed (read-refused-by-19 mode interface words) (impossible-exactly interface (typeIn words) (secondIn words))
+    as-claimed (read-refused-by-19 mode interface words)
+    (λ form. both-exactly (low-exactly mode (form-counted mode words form)) (impossible-exactly interface (typeIn words) (secondIn words)))
 
 pub ancillary-written-refused-by-19 :
     (interface : Interface) (mode : ℕ) (r : Record) (type second start : ℕ) (run : List ℕ)
-    → (writtenOf mode interface r type second start run ≡ Unwritten 19) ↔ ((unknown mode ≡ false) × ClaimsImpossibleLine interface type second)
+    → (writtenOf mode interface r type second start run ≡ Unwritten 19) ↔ ((uncounted mode ≡ false) × ((mode ≤ 5) × ClaimsImpossibleLine interface type second))
 ancillary-written-refused-by-19 interface mode r type second start run =
-    as-claimed (written-refused-by-19 mode interface r type second start run) (impossible-exactly interface type second)
+    as-claimed (written-refused-by-19 mode interface r type second start run)
+    (λ counted. both-exactly (low-exactly mode (counted-exactly mode .0 counted)) (impossible-exactly interface type second))
+
+-- Document 02, A6: "A second byte that doesn't name the mode given is refused by 23, straight after 7": of words that have the form of a packet and a type of the mode's family
+-- exactly then, whatever record they carry, and so of a write. Shut out: the second byte unchecked; 8 given where 23 applies too; another coding of the byte.
+pub ancillary-refused-by-23 :
+    (interface : Interface) (mode : ℕ) (words : List ℕ)
+    → (packetRead mode interface words ≡ Turned 23)
+    ↔ (Clear (formRefusals mode words) × (PayloadType mode (typeIn words) × ((6 ≤ mode) × (Names mode (secondIn words) → ⊥))))
+ancillary-refused-by-23 interface mode words =
+    as-claimed (read-refused-by-23 mode interface words)
+    (λ form. (let few = form-counted mode words form in both-exactly (type-exactly mode few (typeIn words)) (misnamed-exactly mode few (secondIn words))))
+
+pub ancillary-written-refused-by-23 :
+    (interface : Interface) (mode : ℕ) (r : Record) (type second start : ℕ) (run : List ℕ)
+    → (writtenOf mode interface r type second start run ≡ Unwritten 23)
+    ↔ ((uncounted mode ≡ false) × (PayloadType mode type × ((6 ≤ mode) × (Names mode second → ⊥))))
+ancillary-written-refused-by-23 interface mode r type second start run =
+    as-claimed (written-refused-by-23 mode interface r type second start run)
+    (λ counted. (let few = counted-exactly mode .0 counted in both-exactly (type-exactly mode few type) (misnamed-exactly mode few second)))
 
 -- And nothing else depends on the interface: where no such line is claimed, a read and a write are what they are in high definition, which "skips the check". Shut
 -- out: another refusal, another record or other words on one interface than on another.

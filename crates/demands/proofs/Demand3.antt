@@ -28,13 +28,13 @@ use Rattle.following.proofs.Demand3.{in-blocks, demand-3}
 use Rattle.following.proofs.Tight.{tight}
 use Rattle.following.proofs.Impostors as impostors
 use Rattle.demands.specs.Carriers.{linear}
-use Rattle.demands.proofs.Accepted.{acceptable-exactly}
+use Rattle.demands.proofs.Accepted.{on-lines-exactly}
 
 -- "code words that demand 2 accepts": whatever demand 2 takes on the linear track, each word that is made of it, corrected or not, is one of them.
 pub a-word-for-each :
     (make : Found) (mode : ℕ) (r : Record) → linear make .Accepts mode r → (word : CodeWord mode) × (word .says ≡ r) × (word .bits ≡ wordOf mode r make)
 a-word-for-each make mode r ok =
-    let read = read-of-written mode r (acceptable-exactly mode r .1 (ok .0), ok .1, ok .2) make in
+    let read = read-of-written mode r (on-lines-exactly mode r .1 (ok .0), ok .1, ok .2) make in
     (record { bits = wordOf mode r make; says = r; found = foundIn (wordOf mode r make); accepted = read }, refl, refl)
 
 -- "Take a reader in any state that feeding can bring a fresh one to": reached by single steps over any elements, in a mode that is known; one that hears

@@ -8,6 +8,13 @@
 -- Pictures  which picture a word, a line or a packet shows, in the request's words
 -- Places    what a place is refused by, and a mark that does not say it
 -- Seconds   the number of a picture within its second
+-- Families  types, second bytes and sub-frame bits are those that the source prints
+-- Packets   what a packet can hold, in the requests' words
+-- HighRates where a picture's place stands in modes 6 to 10, and the words that a packet opens with
+-- Bounds    where a mode is refused by 2, exactly
+-- Given     where a packet is refused by 4, 7 and 12, exactly
+-- Tests     what the tests for 8, 9 and 10 of a packet say, in the documents' words
+-- Refused   where a packet is refused by 8, 9 and 10, exactly
 -- LineNumbers the line numbers that a packet may not claim are those that the printed table has no entry for
 pub mod Demand1
 pub mod Demand2
@@ -20,3 +27,10 @@ pub mod Pictures
 pub mod Places
 pub mod Seconds
 pub mod LineNumbers
+pub mod Families
+pub mod Packets
+pub mod HighRates
+pub mod Bounds
+pub mod Given
+pub mod Refused
+pub mod Tests

@@ -1,24 +1,20 @@
 -- The line numbers that can't be: what `atc` says by the ends of the columns is what Table 4 says as it is printed. One test, computed over all six bits on both
 -- interfaces, and carried to every second byte.
 -- Assumes nothing.
-use Prim.Native.Nat.{ℕ, _+_, _/_, _%_, _≤_}
+use Prim.Native.Nat.{ℕ, _+_, _/_, _%_}
 use mathlib.Core.Path.{_≡_, refl, sym, _∙_}
 use mathlib.Core.Bool.{Bool, true, false, not, _&&_, _||_, true≢false}
 use mathlib.Core.List.{List, [], _∷_}
 use mathlib.Core.Logic.{_↔_, _⊎_, inl, inr}
 use native.Mathlib.Omega.{arith}
 use lib.Dec.{eqb}
-use borrow.Author.Tests.{eqb-true, eq-eqb, ltb-false, le-ltb}
-use Rattle.refusals.specs.Table.{unknown-type, impossible-line}
-use Rattle.refusals.proofs.Answered.{Clear}
-use Rattle.refusals.proofs.ByNumber.{clear-at}
+use borrow.Author.Tests.{eqb-true, eq-eqb}
 use Rattle.runs.proofs.Same.{both-true}
 use Rattle.interval.specs.Line.{someBelow}
 use Rattle.interval.proofs.Lists.{none-of}
 use Rattle.atc.specs.declared.types.Interface.{Interface}
 use Rattle.atc.specs.declared.types.Interface.the-variants.{Lines525, Lines625, HighDefinition}
 use Rattle.atc.specs.Lines.{lacksEntry, impossibleLine}
-use Rattle.atc.specs.Calls.{payloadRefusals}
 use Rattle.trips.proofs.Nineteen.{claims-a-line}
 use Rattle.demands.specs.Table4.{Row, none, table4, entryAmong, OfLines, ClaimsImpossibleLine}
 
@@ -100,13 +96,3 @@ module _ (interface : Interface) (type second : ℕ) where
       go : (t : Bool) → impossibleLine interface type second ≡ t → t ≡ false
       go true e = absurd (not-claimed (impossible-exactly .0 e))
       go false e = refl
-
-  -- neither 7 nor 19 applies exactly where the type is up to 2 and no such line is claimed
-  pub payload-exactly : Clear (payloadRefusals interface type second) ↔ ((type ≤ 2) × (ClaimsImpossibleLine interface type second → ⊥))
-  payload-exactly = (
-    λ clear. (
-      ltb-false 2 type (clear-at unknown-type (payloadRefusals interface type second) clear),
-      λ claims. true≢false (sym (impossible-exactly .1 claims) ∙ clear-at impossible-line (payloadRefusals interface type second) clear),
-    ),
-    λ ok. (le-ltb 2 type (ok .0), (possible (ok .1), tt)),
-  )

@@ -2,7 +2,7 @@
 -- Assumes nothing.
 use Prim.Native.Nat.{ℕ, _<_, _≤_}
 use mathlib.Core.Path.{_≡_, refl, sym, _∙_}
-use mathlib.Core.Bool.{Bool, true, false, true≢false}
+use mathlib.Core.Bool.{Bool, true, false, cond, true≢false}
 use mathlib.Core.List.{List}
 use mathlib.Core.Logic.{_↔_}
 use native.Mathlib.Omega.{arith}
@@ -25,10 +25,10 @@ use Rattle.record.specs.declared.types.Packed.the-variants.{Bits, Refused as Un
 use Rattle.record.specs.Record.{atPlace}
 use Rattle.modes.specs.declared.types.Shows.{Shows}
 use Rattle.modes.specs.declared.types.Shows.the-variants.{First, ByMark}
-use Rattle.modes.specs.Modes.{rateAt, picturesAt, withMode}
+use Rattle.modes.specs.Modes.{highRate, rateAt, picturesAt, withCounting}
 use Rattle.modes.specs.Calls.{numberIn}
 use Rattle.modes.specs.Shown.{unshown, carriedIn}
-use Rattle.modes.proofs.EachMode.{alone, pairs}
+use Rattle.modes.proofs.EachMode.{alone, pairs, several-share}
 use Rattle.modes.proofs.Rows.{number-rows}
 use Rattle.modes.proofs.Told.{carriedRows, carried-is}
 use Rattle.polarity.specs.declared.types.Found.{Found}
@@ -36,17 +36,18 @@ use Rattle.ltc.specs.Calls.{markOrSecond}
 use Rattle.ltc.proofs.Evened.{is-no}
 use Rattle.atc.specs.declared.types.Interface.{Interface}
 use Rattle.atc.specs.declared.types.Contents.{Contents}
-use Rattle.atc.specs.Calls.{showsBy}
+use Rattle.atc.specs.Records.{showsBy}
 use Rattle.trips.proofs.Eleven as eleven
-use Rattle.demands.specs.Records.{Acceptable, FirstPicture, MarkSays, PacketShows}
+use Rattle.demands.specs.Records.{Acceptable, OnLines, FirstPicture, MarkSays, PacketShows}
 use Rattle.demands.specs.Table4.{ClaimsImpossibleLine}
+use Rattle.demands.specs.Families.{PayloadType, NamesMode}
 use Rattle.demands.specs.Carriers.{linear, interval, ancillary}
-use Rattle.demands.proofs.Accepted.{known-exactly, acceptable-exactly}
+use Rattle.demands.proofs.Accepted.{known, known-exactly, counted-exactly, acceptable-exactly, on-lines-exactly}
 use Rattle.demands.proofs.Pictures.{first-exactly, mark-says-exactly, packet-shows-exactly}
-use Rattle.demands.proofs.LineNumbers.{payload-exactly}
+use Rattle.demands.proofs.Families.{payload-exactly}
 
--- "Pair place 1 in a record of modes 0 to 2 is refused by 10", and any other place but the first: of a record that is carried at the first, on whatever carries it. Shut out: 8
--- given for it, or the place unread.
+-- "Pair place 1 in a record of modes 0 to 2 is refused by 10", and any other place but the first: of a record that is carried at the first, whatever shows the picture. Shut
+-- out: 8 given for it, or the place unread.
 pub place-refused-by-10 :
     (mode : ℕ) (shows : Shows) (r : Record) (n : ℕ) → mode < 3 → carriedIn mode shows (atPlace 0 r) ≡ Bits n → (FirstPicture r → ⊥)
     → carriedIn mode shows r ≡ Unpackable unused-bit-set
@@ -59,16 +60,18 @@ place-refused-by-10 mode shows r n few stands other =
     let some : ltb 0 (r .place) ≡ true = lt-ltb 0 (r .place) (omega arith) in
     rw (clear-at unknown-mode rows clear, one, (rw one at eight), clear-at skipped-address rows clear, some)
 
--- In modes 3 to 5 a place that is not below 2 is refused by 8, whatever else is wrong but the mode: of a record, and of a picture that is counted. Shut out: 10 given for it.
+-- In modes 3 to 5 a place that is not below 2 is refused by 8, whatever else is wrong but the mode: of a record on a line. Of a picture that is counted, "in modes 3 to 10
+-- refused by 8 if not below the pictures to an address". Shut out: 10 given for it; place 3 of 72 counted, or place 5 of 24x5.
 pub place-refused-by-8 :
     (mode : ℕ) (shows : Shows) (r : Record) → 3 ≤ mode → mode ≤ 5 → 2 ≤ r .place → carriedIn mode shows r ≡ Unpackable outside-the-clock
 unfolding carriedIn
-place-refused-by-8 mode shows r pair few high = rw (known-exactly mode .1 few, pairs mode pair, le-leb 2 (r .place) high)
+place-refused-by-8 mode shows r pair few high = rw (known-exactly mode .1 few, pairs mode pair few, le-leb 2 (r .place) high)
 
 pub counted-place-refused-by-8 :
-    (mode : ℕ) (drop : Flag) (p : Picture) → 3 ≤ mode → mode ≤ 5 → 2 ≤ p .place → numberIn mode drop p ≡ Unnumbered outside-the-clock
+    (mode : ℕ) (drop : Flag) (p : Picture) → 3 ≤ mode → mode ≤ 10 → picturesAt mode ≤ p .place → numberIn mode drop p ≡ Unnumbered outside-the-clock
 unfolding numberIn numberOf
-counted-place-refused-by-8 mode drop p pair few high = rw (known-exactly mode .1 few, pairs mode pair, le-leb 2 (p .place) high)
+counted-place-refused-by-8 mode drop p more few high =
+    rw (counted-exactly mode .1 few, lt-ltb 1 (picturesAt mode) (several-share mode more), le-leb (picturesAt mode) (p .place) high)
 
 -- and in modes 0 to 2 any place but the first by 10, as of a record: of a picture whose address has a number. Shut out: 8 given for it.
 pub counted-place-refused-by-10 :
@@ -77,7 +80,7 @@ pub counted-place-refused-by-10 :
 unfolding numberIn numberOf
 counted-place-refused-by-10 mode drop p n few stands other =
     let first = picture (p .address) 0 in
-    let rows = withMode mode (pictureRefusals (rateAt mode) (picturesAt mode) drop first) in
+    let rows = withCounting mode (pictureRefusals (rateAt mode) (picturesAt mode) drop first) in
     let clear = accepted-as Unnumbered _ rows (Number n) no-number (sym (number-rows mode drop first) ∙ stands) .0 in
     let one = alone mode few in
     let eight = clear-at outside-the-clock rows clear in
@@ -100,9 +103,9 @@ differs other exactly stands shown = (
 
 pub linear-refused-by-11 :
     (make : Found) (mode : ℕ) (r : Record) (start : ℕ) (run : List ℕ)
-    → linear make .Refuses mode r start run mark-set ↔ (Acceptable mode r × ((r .flags .mark ≡ No) × FirstPicture r → ⊥))
+    → linear make .Refuses mode r start run mark-set ↔ (OnLines mode r × ((r .flags .mark ≡ No) × FirstPicture r → ⊥))
 linear-refused-by-11 make mode r start run =
-    differs (markOrSecond mode r) (eleven.linear-refused-by-11 mode r start run) (acceptable-exactly mode r) (λ ok. (there, back))
+    differs (markOrSecond mode r) (eleven.linear-refused-by-11 mode r start run) (on-lines-exactly mode r) (λ ok. (there, back))
   where
     there : markOrSecond mode r ≡ false → (r .flags .mark ≡ No) × FirstPicture r
     there e =
@@ -114,20 +117,24 @@ linear-refused-by-11 make mode r start run =
 
 pub interval-refused-by-11 :
     (mode : ℕ) (r : Record) (start : ℕ) (run : List ℕ)
-    → interval .Refuses mode r start run mark-set ↔ (Acceptable mode r × (MarkSays mode r → ⊥))
+    → interval .Refuses mode r start run mark-set ↔ (OnLines mode r × (MarkSays mode r → ⊥))
 interval-refused-by-11 mode r start run =
-    differs (unshown mode ByMark r) (eleven.interval-refused-by-11 mode r start run) (acceptable-exactly mode r) (mark-says-exactly mode r)
+    differs (unshown mode ByMark r) (eleven.interval-refused-by-11 mode r start run) (on-lines-exactly mode r)
+    (λ ok. mark-says-exactly mode r (ok .1) (ok .0))
 
 pub ancillary-refused-by-11 :
     (interface : Interface) (mode : ℕ) (c : Contents) (start : ℕ) (run : List ℕ)
     → ancillary interface .Refuses mode c start run mark-set
-    ↔ ((Acceptable mode (c .«record») × ((c .«payload_type» ≤ 2) × (ClaimsImpossibleLine interface (c .«payload_type») (c .second) → ⊥)))
+    ↔ ((Acceptable mode (c .«record»)
+    × (PayloadType mode (c .«payload_type») × (ClaimsImpossibleLine interface (c .«payload_type») (c .second) → ⊥) × NamesMode mode (c .second)))
     × (PacketShows mode (c .«payload_type») (c .«record») → ⊥))
 ancillary-refused-by-11 interface mode c start run =
     let r = c .«record» in
     let type = c .«payload_type» in
     let record-is = acceptable-exactly mode r in
-    let payload-is = payload-exactly interface type (c .second) in
-    differs (unshown mode (showsBy type) r) (eleven.ancillary-refused-by-11 mode r interface type (c .second) start run)
-    (λ stands. (record-is .0 (stands .0), payload-is .0 (stands .1)), λ ok. (record-is .1 (ok .0), payload-is .1 (ok .1)))
+    let few : Acceptable mode r → mode ≤ 10 = λ ok. counted-exactly mode .0 (known (ok .counts)) in
+    differs (cond (highRate mode) false (unshown mode (showsBy type) r)) (eleven.ancillary-refused-by-11 mode r interface type (c .second) start run) (
+      λ stands. (let ok = record-is .0 (stands .0) in (ok, payload-exactly mode (few ok) interface type (c .second) .0 (stands .1))),
+      λ ok. (record-is .1 (ok .0), payload-exactly mode (few (ok .0)) interface type (c .second) .1 (ok .1)),
+    )
     (λ ok. packet-shows-exactly mode r (ok .0) type)

@@ -1,4 +1,4 @@
--- The bars that document 01 marks P, one table under one claim, and those of document 02, A4, another: computed from the definitions that the calls promise.
+-- The bars that document 01 marks P, one table under one claim, and those of document 02, A4 and A6, two others: computed from the definitions that the calls promise.
 -- Assumes nothing.
 use mathlib.Core.Path.{refl}
 use Rattle.bits.specs.Bits.{value, toBits, howMany}
@@ -8,7 +8,8 @@ use Rattle.clock.specs.Counting.{countOf, addressAt}
 use Rattle.pictures.specs.Calls.{numberOf, inSecondOf, pictureOf, fieldsOf, spanOf}
 use Rattle.layout.specs.Layout.{join, layout}
 use Rattle.record.specs.Record.{fieldsOf as fieldsOfRecord, infoOf}
-use Rattle.modes.specs.Modes.{unknown, rateAt, picturesAt}
+use Rattle.modes.specs.Modes.{unknown, uncounted, highRate, rateAt, picturesAt}
+use Rattle.superframes.specs.Named.{misnamed}
 use Rattle.modes.specs.Calls.{numberIn, inSecondIn, pictureIn, fieldsIn, spanIn}
 use Rattle.polarity.specs.Word.{syncWord, oddZeros, wordOf}
 use Rattle.ltc.specs.Calls as ltc
@@ -18,13 +19,18 @@ use Rattle.words.specs.Words.{dataWord, dataWords, sum9}
 use Rattle.packets.specs.Packet.{header, checksumOf, frontOf, packetWith}
 use Rattle.atc.specs.Lines.{lacksEntry}
 use Rattle.atc.specs.Calls as atc
-use Rattle.demands.specs.Bars.{bars, pairBars, onesAmong, packed, Rehearsed}
+use Rattle.demands.specs.Bars.{bars, pairBars, highBars, onesAmong, packed, Rehearsed}
 
 pub rehearsed : Rehearsed bars
-unfolding bars onesAmong packed numberIn pictureIn fieldsIn spanIn numberOf pictureOf fieldsOf spanOf value toBits howMany placed join layout fieldsOfRecord infoOf syncWord oddZeros wordOf each onesFrom groups payload crcOf lineWith vitc.lineOf dataWords dataWord sum9 header checksumOf frontOf packetWith countOf distanceOf ltc.runOf ltc.writtenRows lacksEntry atc.runOf unknown rateAt picturesAt
+unfolding bars onesAmong packed numberIn pictureIn fieldsIn spanIn numberOf pictureOf fieldsOf spanOf value toBits howMany placed join layout fieldsOfRecord infoOf syncWord oddZeros wordOf each onesFrom groups payload crcOf lineWith vitc.lineOf dataWords dataWord sum9 header checksumOf frontOf packetWith countOf distanceOf ltc.runOf ltc.writtenRows lacksEntry misnamed atc.runOf unknown uncounted highRate rateAt picturesAt
 rehearsed = refl
 
 -- and those of document 02, A4
 pub pairs-rehearsed : Rehearsed pairBars
-unfolding pairBars onesAmong numberIn inSecondIn pictureIn numberOf inSecondOf pictureOf countOf addressAt value toBits howMany placed join layout fieldsOfRecord infoOf each onesFrom groups payload crcOf lineWith vitc.lineOf dataWords dataWord sum9 header checksumOf frontOf packetWith lacksEntry atc.runOf unknown rateAt picturesAt
+unfolding pairBars onesAmong numberIn inSecondIn pictureIn numberOf inSecondOf pictureOf countOf addressAt value toBits howMany placed join layout fieldsOfRecord infoOf each onesFrom groups payload crcOf lineWith vitc.lineOf dataWords dataWord sum9 header checksumOf frontOf packetWith lacksEntry misnamed atc.runOf unknown uncounted highRate rateAt picturesAt
 pairs-rehearsed = refl
+
+-- and those of A6
+pub high-rates-rehearsed : Rehearsed highBars
+unfolding highBars onesAmong numberIn inSecondIn pictureIn numberOf inSecondOf pictureOf countOf addressAt value toBits howMany placed join layout fieldsOfRecord infoOf each onesFrom groups payload crcOf lineWith vitc.lineOf dataWords dataWord sum9 header checksumOf frontOf packetWith lacksEntry misnamed atc.runOf unknown uncounted highRate rateAt picturesAt vitc.writtenOf ltc.writtenOf ltc.writtenRows atc.writtenOf
+high-rates-rehearsed = refl

@@ -14,7 +14,7 @@ use Rattle.pictures.specs.declared.types.InSecond.the-variants.{Number as Count
 use Rattle.pictures.specs.Pictures.{SameSecond}
 use Rattle.pictures.specs.Calls.{pictureRefusals, numberOf, inSecondOf}
 use Rattle.pictures.proofs.Seconds as any
-use Rattle.modes.specs.Modes.{rateAt, picturesAt, withMode}
+use Rattle.modes.specs.Modes.{rateAt, picturesAt, withCounting}
 use Rattle.modes.specs.Calls.{numberIn, inSecondIn}
 use Rattle.modes.proofs.InMode.{answered}
 use Rattle.modes.proofs.EachMode.{some-picture}
@@ -33,7 +33,7 @@ module _ (mode : ℕ) (drop : Flag) where
 
   pub both-refused-alike : (p : Picture) (k : ℕ) → (numberIn mode drop p ≡ Unnumbered k) ↔ (inSecondIn mode drop p ≡ Uncounted k)
   unfolding numberIn numberOf inSecondIn inSecondOf
-  both-refused-alike p k = any.alike (withMode mode (pictureRefusals (rateAt mode) (picturesAt mode) drop p)) _ _ k
+  both-refused-alike p k = any.alike (withCounting mode (pictureRefusals (rateAt mode) (picturesAt mode) drop p)) _ _ k
 
   pub within-a-second : (p : Picture) (s : PictureInSecond) → inSecondIn mode drop p ≡ Counted s → s .0 < picturesAt mode * framesInSecond (rateAt mode)
   within-a-second p s e = any.within-its-second (rateAt mode) (picturesAt mode) drop (some-picture mode) p s (by-row-counted p s e)

@@ -1,4 +1,5 @@
--- The bars to rehearse: "Marked P: proved of the written definitions, as a single table under a single claim." And a second table, of document 02, A4, under the same claim.
+-- The bars to rehearse: "Marked P: proved of the written definitions, as a single table under a single claim." And a second table, of document 02, A4, and a third, of A6, under the same
+-- claim.
 -- Assumes nothing.
 use Prim.Native.Nat.{ℕ, zero, suc}
 use mathlib.Core.Path.{_≡_}
@@ -23,6 +24,8 @@ use Rattle.pictures.specs.declared.types.InSecond.{InSecond}
 use Rattle.pictures.specs.declared.types.InSecond.the-variants.{Number as Counted, Refused as Uncounted}
 use Rattle.pictures.specs.Pictures.{picture}
 use Rattle.record.specs.declared.types.Record.{Record}
+use Rattle.runs.specs.declared.types.Written.{Written}
+use Rattle.runs.specs.declared.types.Written.the-variants.{Done, Refused as Unwritten}
 use Rattle.modes.specs.Calls.{numberIn, inSecondIn, pictureIn, fieldsIn, spanIn}
 use Rattle.polarity.specs.declared.types.Found.the-variants.{Corrected}
 use Rattle.ltc.specs.Calls as ltc
@@ -207,4 +210,85 @@ pairBars =
     ∷ (elements (atc.runOf 5 HighDefinition secondPicture 2 0 0 (replicate 23 0)) is elements (
     0x000 ∷ 0x3FF ∷ 0x3FF ∷ 0x260 ∷ 0x260 ∷ 0x110 ∷ 0x200 ∷ 0x108 ∷ 0x200 ∷ 0x200 ∷ 0x200 ∷ 0x200 ∷ 0x180 ∷ 0x200 ∷ 0x200 ∷ 0x200
     ∷ 0x200 ∷ 0x200 ∷ 0x200 ∷ 0x200 ∷ 0x200 ∷ 0x200 ∷ 0x258 ∷ []))
+    ∷ []
+
+-- Document 02, A6: "120 drop has 10,357,632 pictures a day", "72 refuses 3, and 24x5 refuses 5, 6 and 7", "drop by its flag, which 6 to 9 refuse by 10", "LTC and VITC refuse them by 2, and 2
+-- begins above 10 elsewhere", and what goes with it: the last picture of a day in a mode and the first number that is refused; the highest number within a second; the step over
+-- the skipped numbers of 120 drop; the second byte of another mode; flags that are set; and four packets: place 1 of 72, the last places of 100 and of 24x5, and place 2 of
+-- 10:01:00;02 at 120 drop
+abbrev ofWritten : Written → List ℕ → Told
+ofWritten Done left = elements left
+ofWritten (Unwritten n) left = refusedBy n
+
+-- a record of a picture, with a mark or without
+abbrev recordAt : Picture → Flag → Flag → Record
+recordAt p drop mark =
+    record {
+      address = p .address;
+      flags = record { drop = drop; colour = No; mark = mark; bgf0 = No; bgf1 = No; bgf2 = No };
+      groups = record { group1 = 0; group2 = 0; group3 = 0; group4 = 0; group5 = 0; group6 = 0; group7 = 0; group8 = 0 };
+      place = p .place;
+    }
+
+-- what a write of it into a packet tells
+abbrev inPacket : ℕ → Record → ℕ → ℕ → Told
+inPacket mode r type second =
+    ofWritten (atc.writtenOf mode HighDefinition r type second 0 (replicate 23 0)) (atc.runOf mode HighDefinition r type second 0 (replicate 23 0))
+
+abbrev midnightAt : ℕ → Picture
+midnightAt place = picture (showing 0 0 0 0) place
+
+unfoldable pub highBars : List Bar
+highBars =
+    (ofNumber 6 No 6220799 is shows (picture (showing 23 59 59 23) 2))
+    ∷ (ofNumber 6 No 6220800 is refusedBy 14)
+    ∷ (ofNumber 7 No 8294399 is shows (picture (showing 23 59 59 23) 3))
+    ∷ (ofNumber 7 No 8294400 is refusedBy 14)
+    ∷ (ofNumber 8 No 8639999 is shows (picture (showing 23 59 59 24) 3))
+    ∷ (ofNumber 8 No 8640000 is refusedBy 14)
+    ∷ (ofNumber 9 No 10367999 is shows (picture (showing 23 59 59 23) 4))
+    ∷ (ofNumber 9 No 10368000 is refusedBy 14)
+    ∷ (ofNumber 10 No 10367999 is shows (picture (showing 23 59 59 29) 3))
+    ∷ (ofNumber 10 No 10368000 is refusedBy 14)
+    ∷ (ofNumber 10 Yes 10357631 is shows (picture (showing 23 59 59 29) 3))
+    ∷ (ofNumber 10 Yes 10357632 is refusedBy 14)
+    ∷ (ofNumber 11 No 0 is refusedBy 2)
+    ∷ (inSecond 6 No (picture (showing 0 0 0 23) 2) is number 71)
+    ∷ (inSecond 7 No (picture (showing 0 0 0 23) 3) is number 95)
+    ∷ (inSecond 8 No (picture (showing 0 0 0 24) 3) is number 99)
+    ∷ (inSecond 9 No (picture (showing 0 0 0 23) 4) is number 119)
+    ∷ (inSecond 10 No (picture (showing 0 0 0 29) 3) is number 119)
+    ∷ (inSecond 10 Yes (picture (showing 0 1 0 2) 0) is number 8)
+    ∷ (numbered 10 Yes (picture (showing 0 0 59 29) 3) is number 7199)
+    ∷ (numbered 10 Yes (picture (showing 0 1 0 2) 0) is number 7200)
+    ∷ (numbered 10 Yes (picture (showing 0 1 0 1) 3) is refusedBy 9)
+    ∷ (numbered 6 Yes (midnightAt 0) is refusedBy 10)
+    ∷ (numbered 7 Yes (midnightAt 0) is refusedBy 10)
+    ∷ (numbered 8 Yes (midnightAt 0) is refusedBy 10)
+    ∷ (numbered 9 Yes (midnightAt 0) is refusedBy 10)
+    ∷ (numbered 6 No (midnightAt 2) is number 2)
+    ∷ (numbered 6 No (midnightAt 3) is refusedBy 8)
+    ∷ (numbered 9 No (midnightAt 4) is number 4)
+    ∷ (numbered 9 No (midnightAt 5) is refusedBy 8)
+    ∷ (numbered 9 No (midnightAt 6) is refusedBy 8)
+    ∷ (numbered 9 No (midnightAt 7) is refusedBy 8)
+    ∷ (ofWritten (vitc.writtenOf 6 (recordAt (midnightAt 0) No No) 0 (replicate 90 0)) [] is refusedBy 2)
+    ∷ (ofWritten (ltc.writtenOf 6 (recordAt (midnightAt 0) No No) 0 (replicate 80 0)) [] is refusedBy 2)
+    ∷ (inPacket 11 (recordAt (midnightAt 0) No No) 0x80 0x44 is refusedBy 2)
+    ∷ (inPacket 9 (recordAt (midnightAt 0) No No) 0x90 0x05 is refusedBy 7)
+    ∷ (inPacket 9 (recordAt (midnightAt 5) No No) 0x80 0x85 is refusedBy 23)
+    ∷ (inPacket 9 (recordAt (midnightAt 5) No No) 0x80 0x05 is refusedBy 8)
+    ∷ (inPacket 9 (recordAt (midnightAt 4) No Yes) 0x80 0x05 is refusedBy 10)
+    ∷ (inPacket 6 (recordAt (midnightAt 1) No No) 0x80 0x03 is elements (
+    0x000 ∷ 0x3FF ∷ 0x3FF ∷ 0x260 ∷ 0x161 ∷ 0x110 ∷ 0x200 ∷ 0x200 ∷ 0x180 ∷ 0x200 ∷ 0x200 ∷ 0x200 ∷ 0x200 ∷ 0x108 ∷ 0x108 ∷ 0x108
+    ∷ 0x200 ∷ 0x200 ∷ 0x200 ∷ 0x200 ∷ 0x200 ∷ 0x200 ∷ 0x169 ∷ []))
+    ∷ (inPacket 8 (recordAt (midnightAt 3) No No) 0x8F 0x24 is elements (
+    0x000 ∷ 0x3FF ∷ 0x3FF ∷ 0x260 ∷ 0x161 ∷ 0x110 ∷ 0x108 ∷ 0x108 ∷ 0x288 ∷ 0x108 ∷ 0x200 ∷ 0x200 ∷ 0x200 ∷ 0x108 ∷ 0x200 ∷ 0x200
+    ∷ 0x108 ∷ 0x200 ∷ 0x200 ∷ 0x108 ∷ 0x180 ∷ 0x200 ∷ 0x109 ∷ []))
+    ∷ (inPacket 9 (recordAt (midnightAt 4) No No) 0x80 0x05 is elements (
+    0x000 ∷ 0x3FF ∷ 0x3FF ∷ 0x260 ∷ 0x161 ∷ 0x110 ∷ 0x200 ∷ 0x200 ∷ 0x200 ∷ 0x200 ∷ 0x200 ∷ 0x200 ∷ 0x180 ∷ 0x108 ∷ 0x108 ∷ 0x200
+    ∷ 0x108 ∷ 0x200 ∷ 0x200 ∷ 0x200 ∷ 0x200 ∷ 0x200 ∷ 0x169 ∷ []))
+    ∷ (inPacket 10 (recordAt (picture (showing 10 1 0 2) 2) Yes No) 0x80 0x44 is elements (
+    0x000 ∷ 0x3FF ∷ 0x3FF ∷ 0x260 ∷ 0x161 ∷ 0x110 ∷ 0x120 ∷ 0x200 ∷ 0x140 ∷ 0x200 ∷ 0x200 ∷ 0x200 ∷ 0x180 ∷ 0x108 ∷ 0x110 ∷ 0x200
+    ∷ 0x108 ∷ 0x200 ∷ 0x200 ∷ 0x200 ∷ 0x218 ∷ 0x200 ∷ 0x1E9 ∷ []))
     ∷ []

@@ -25,8 +25,9 @@ use Rattle.atc.specs.declared.types.Interface.{Interface}
 use Rattle.atc.specs.declared.types.Contents.{Contents}
 use Rattle.atc.specs.Calls as atc
 use Rattle.atc.specs.declared.types.Packet.the-variants.{Holds as Carries}
-use Rattle.demands.specs.Records.{Acceptable, FirstPicture, MarkSays, PacketShows}
+use Rattle.demands.specs.Records.{Acceptable, OnLines, FirstPicture, MarkSays, PacketShows}
 use Rattle.demands.specs.Table4.{ClaimsImpossibleLine}
+use Rattle.demands.specs.Families.{PayloadType, NamesMode}
 
 -- What is needed of the bounds that the types of a carrier's calls set; what it takes, by mode; and what its calls promise: that a write of a content from a
 -- start in a lent run is done; that it is refused with a number; the run as the write leaves it; and that a read of some elements gives a content.
@@ -45,7 +46,7 @@ linear make =
     record {
       size = 80;
       Given = λ r. Unit {0};
-      Accepts = λ mode r. Acceptable mode r × (r .flags .mark ≡ No) × FirstPicture r;
+      Accepts = λ mode r. OnLines mode r × (r .flags .mark ≡ No) × FirstPicture r;
       Writes = λ mode r start run. ltc.writtenOf mode r start run ≡ Done;
       Refuses = λ mode r start run number. ltc.writtenOf mode r start run ≡ Refused number;
       leaves = λ mode r. ltc.runOf mode r make;
@@ -73,23 +74,24 @@ interval =
     record {
       size = 90;
       Given = λ r. Unit {0};
-      Accepts = λ mode r. Acceptable mode r × MarkSays mode r;
+      Accepts = λ mode r. OnLines mode r × MarkSays mode r;
       Writes = λ mode r start run. vitc.writtenOf mode r start run ≡ Done;
       Refuses = λ mode r start run number. vitc.writtenOf mode r start run ≡ Refused number;
       leaves = vitc.runOf;
       Reads = λ mode line r. vitc.readOf mode line ≡ Holds r;
     }
 
--- 23 words of an ancillary packet on an interface: `atc::write` and `atc::read`. The payload type is up to 2, the second byte is a byte, and it claims no line
--- that can't be; and the picture is the one that a packet of the type shows
+-- 23 words of an ancillary packet on an interface: `atc::write` and `atc::read`. The payload type is one of the mode's family, the second byte is a byte, and it
+-- claims no line that can't be, or names the mode; and the picture is the one that a packet of the type shows
 abbrev pub ancillary : Interface → Carrier Contents
 ancillary interface =
     record {
       size = 23;
       Given = λ c. c .second < 256;
       Accepts =
-          λ mode c. Acceptable mode (c .«record») × (c .«payload_type» ≤ 2) × (c .second < 256)
-          × (ClaimsImpossibleLine interface (c .«payload_type») (c .second) → ⊥) × PacketShows mode (c .«payload_type») (c .«record»);
+          λ mode c. Acceptable mode (c .«record») × PayloadType mode (c .«payload_type») × (c .second < 256)
+          × (ClaimsImpossibleLine interface (c .«payload_type») (c .second) → ⊥) × PacketShows mode (c .«payload_type») (c .«record»)
+          × NamesMode mode (c .second);
       Writes = λ mode c start run. (c .second < 256) × (atc.writtenOf mode interface (c .«record») (c .«payload_type») (c .second) start run ≡ Done);
       Refuses = λ mode c start run number. atc.writtenOf mode interface (c .«record») (c .«payload_type») (c .second) start run ≡ Refused number;
       leaves = λ mode c. atc.runOf mode interface (c .«record») (c .«payload_type») (c .second);

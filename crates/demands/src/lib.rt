@@ -3,8 +3,10 @@
 // specs/Modes        the counting modes, with drop or without
 // specs/Records      the records that can be carried, and which picture is shown
 // specs/Table4       the line numbers that a packet may claim, as the source prints them
+// specs/Families     the two families of packets: types, second bytes and sub-frame bits, as the source prints them
+// specs/Refused      what 8, 9 and 10 say of a record and of bits, in the documents' words
 // specs/Carriers     what it is for a write to be done or refused, and for words and records to match one to one
-// specs/Bars         the bars that document 01 marks P, one table, and those of document 02, A4, another
+// specs/Bars         the bars that document 01 marks P, one table, and those of document 02, A4 and A6, two others
 // proofs/Demand1     a write is done or refused, and one that is refused changes no element
 // proofs/Demand2     numbers, addresses and pictures; words, lines and packets, read or written
 // proofs/Demand3     each code word is reported, as itself, at its 80th bit
@@ -14,6 +16,13 @@
 // proofs/Accepted    a record is clear of its refusals exactly where it is acceptable
 // proofs/Pictures    which picture a word, a line or a packet shows, in the request's words
 // proofs/Places      what a place is refused by, and a mark that does not say it
+// proofs/Families    types, second bytes and sub-frame bits are those that the source prints
+// proofs/Packets     what a packet can hold, in the requests' words
+// proofs/HighRates   where a picture's place stands in modes 6 to 10, and the words that a packet opens with
+// proofs/Bounds      where a mode is refused by 2, exactly: the calls that count, words, lines and packets
+// proofs/Tests       what the tests for 8, 9 and 10 of a packet say, in the documents' words
+// proofs/Refused     where a packet is refused by 8, 9 and 10, exactly
+// proofs/Given       where a packet is refused by 4, 7 and 12, exactly
 // proofs/Seconds     the number of a picture within its second
 // proofs/LineNumbers the line numbers that a packet may not claim are those that the printed table has no entry for
 //

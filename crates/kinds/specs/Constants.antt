@@ -1,4 +1,4 @@
--- The constants of the kinds: the table of frames in a second and in a day, and of pictures where two share an address.
+-- The constants of the kinds: the table of frames in a second and in a day, and of pictures where several share an address.
 -- Assumes nothing.
 use Prim.Native.Nat.{ℕ, _*_}
 use mathlib.Core.List.{List, [], _∷_, _++_}
@@ -24,3 +24,13 @@ pairConstantsOf rate drop = 2 * framesInSecond rate ∷ picturesInDay rate 2 (is
 -- those of 48, 50, 60 and 59.94 drop
 abbrev pub pairConstants : List ℕ
 pairConstants = pairConstantsOf At24 No ++ pairConstantsOf At25 No ++ pairConstantsOf At30 No ++ pairConstantsOf At30 Yes
+
+-- Document 02, A6: the same, of so many pictures to an address
+abbrev pub highConstantsOf : Rate → ℕ → Flag → List ℕ
+highConstantsOf rate pictures drop = pictures * framesInSecond rate ∷ picturesInDay rate pictures (isYes drop) ∷ []
+
+-- those of 72, 96, 100, 120 as 24x5, 120 as 30x4 and 120 drop
+abbrev pub highConstants : List ℕ
+highConstants =
+    highConstantsOf At24 3 No ++ highConstantsOf At24 4 No ++ highConstantsOf At25 4 No ++ highConstantsOf At24 5 No ++ highConstantsOf At30 4 No
+    ++ highConstantsOf At30 4 Yes

@@ -1,12 +1,13 @@
 -- In a mode that is known a record's bits are made as at its rate, of the record as its rate has it; what a mode's rate tells.
 -- Assumes nothing.
-use Prim.Native.Nat.{ℕ}
+use Prim.Native.Nat.{ℕ, _+_, _-_}
 use mathlib.Core.Path.{_≡_, refl, sym, ap, _∙_}
 use mathlib.Core.Bool.{Bool, true, false, not, _&&_, _||_, cond}
+use mathlib.Core.List.{[]}
 use native.Mathlib.Omega.{arith}
 use lib.Dec.{ltb}
 use Rattle.refusals.specs.Table.{unknown-mode, outside-the-clock, unused-bit-set}
-use Rattle.refusals.proofs.Answered.{Clear, neither}
+use Rattle.refusals.proofs.Answered.{Clear, neither, accepted-as}
 use Rattle.refusals.proofs.ByNumber.{clear-at}
 use Rattle.rates.specs.declared.types.Rate.{Rate}
 use Rattle.pictures.specs.Pictures.{several, placeOutside, placeUnused}
@@ -17,10 +18,12 @@ use Rattle.record.specs.Calls.{writeRefusals, packedOf}
 use Rattle.record.proofs.Accepted.{Writable, writable}
 use Rattle.modes.specs.declared.types.Rated.{Rated}
 use Rattle.modes.specs.declared.types.Rated.the-variants.{Known, Refused}
-use Rattle.modes.specs.Modes.{unknown, rateAt, picturesAt, ratedOf}
+use Rattle.modes.specs.declared.types.Rowed.{Rowed}
+use Rattle.modes.specs.declared.types.Rowed.the-variants.{Known as Row, Refused as Rowless}
+use Rattle.modes.specs.Modes.{unknown, highRate, rateAt, picturesAt, withMode, ratedOf, highRowOf}
 use Rattle.modes.specs.Calls.{writeRefusalsIn, packedIn}
 use Rattle.modes.specs.AtRate.{placeLeft, atRate}
-use Rattle.modes.proofs.InMode.{answered}
+use Rattle.modes.proofs.EachMode.{some-picture}
 
 -- a place is left for the rate exactly where it is not used
 pub left-unused : (pictures place : ℕ) → ltb 0 (placeLeft pictures place) ≡ placeUnused pictures place
@@ -62,7 +65,7 @@ module _ (mode : ℕ) (r : Record) where
     pub fits-of : Writable (r .address) (r .groups)
     fits-of = writable (rateAt mode) (atRate (picturesAt mode) r) clear-at-rate
 
--- a rate that was told is the mode's own, and the mode is known; a mode that was refused is unknown
+-- a rate, or a row, that was told is the mode's own, and the mode is one of those that are asked for; a mode that was refused is not
 rateIn : Rate → Rated → Rate
 rateIn other (Known rate) = rate
 rateIn other (Refused n) = other
@@ -71,8 +74,8 @@ module _ (mode : ℕ) (told : Rated) (asked : told ≡ ratedOf mode) where
   pub rate-told : (rate : Rate) → told ≡ Known rate → (unknown mode ≡ false) × (rateAt mode ≡ rate)
   unfolding ratedOf rateIn
   rate-told rate e =
-      let at = answered Refused mode (λ own pictures. Known own) (Known rate) apart (sym asked ∙ e) in
-      (at .0, ap (rateIn rate) (at .1))
+      let taken = accepted-as Refused (Known (rateAt mode)) (withMode mode []) (Known rate) apart (sym asked ∙ e) in
+      (taken .0 .0, ap (rateIn rate) (taken .1))
     where
       apart : (n : ℕ) → Refused n ≡ Known rate → ⊥
       apart n same = let z : _≡_ {A = ℕ} 0 1 = cc in omega arith
@@ -86,3 +89,27 @@ module _ (mode : ℕ) (told : Rated) (asked : told ≡ ratedOf mode) where
       go false t =
           let other : Refused n ≡ Known (rateAt mode) = sym e ∙ asked ∙ rw t in
           let z : _≡_ {A = ℕ} 0 1 = cc in absurd (omega arith)
+
+module _ (mode : ℕ) (told : Rowed) (asked : told ≡ highRowOf mode) where
+  pub row-told : (rate : Rate) (last : ℕ) → told ≡ Row rate last → (highRate mode ≡ true) × ((rateAt mode ≡ rate) × (last + 1 ≡ picturesAt mode))
+  unfolding highRowOf
+  row-told rate last e = go (highRate mode) refl
+    where
+      go : (t : Bool) → highRate mode ≡ t → (highRate mode ≡ true) × ((rateAt mode ≡ rate) × (last + 1 ≡ picturesAt mode))
+      go true t =
+          let own : Row rate last ≡ Row (rateAt mode) (picturesAt mode - 1) = sym e ∙ asked ∙ rw t in
+          let place : last ≡ picturesAt mode - 1 = cc in
+          (t, (cc, omega (arith, some-picture mode)))
+      go false t =
+          let other : Row rate last ≡ Rowless 2 = sym e ∙ asked ∙ rw t in
+          let z : _≡_ {A = ℕ} 0 1 = cc in absurd (omega arith)
+
+  pub row-refused : (n : ℕ) → told ≡ Rowless n → highRate mode ≡ false
+  unfolding highRowOf
+  row-refused n e = go (highRate mode) refl
+    where
+      go : (t : Bool) → highRate mode ≡ t → highRate mode ≡ false
+      go true t =
+          let other : Rowless n ≡ Row (rateAt mode) (picturesAt mode - 1) = sym e ∙ asked ∙ rw t in
+          let z : _≡_ {A = ℕ} 0 1 = cc in absurd (omega arith)
+      go false t = t

@@ -2,12 +2,14 @@
 -- Assumes nothing.
 use Prim.Native.Nat.{ℕ, zero, suc, _+_, _<_, _≤_}
 use mathlib.Core.Path.{_≡_, refl, sym}
-use mathlib.Core.Bool.{Bool, true, false, _&&_, true≢false}
-use mathlib.Core.List.{List, [], _∷_}
+use mathlib.Core.Bool.{Bool, true, false, not, _&&_, true≢false}
+use mathlib.Core.List.{List, [], _∷_, _++_}
+use mathlib.Core.Logic.{_↔_}
 use native.Mathlib.Omega.{arith}
-use lib.Dec.{ltb}
-use borrow.Author.Tests.{ltb-true}
-use Rattle.modes.specs.Modes.{Row, table, rowOf, rateAt, picturesAt}
+use lib.Dec.{ltb, leb}
+use lib.ListN.{drop}
+use borrow.Author.Tests.{ltb-true, leb-true, leb-false, le-leb, lt-leb}
+use Rattle.modes.specs.Modes.{Row, table, highRates, rowOf, unknown, uncounted, highRate, rateAt, picturesAt}
 
 -- a test that holds of each row
 everyRow : (Row → Bool) → List Row → Bool
@@ -29,9 +31,14 @@ at-row test (row ∷ rows) all n past = go (test row) refl all n (λ rest m. at-
 -- some picture has each address
 pub some-picture : (mode : ℕ) → 0 < picturesAt mode
 unfolding picturesAt everyRow
-some-picture mode = ltb-true 0 _ (at-row (λ row. ltb 0 (row .pictures)) table refl mode refl)
+some-picture mode = ltb-true 0 _ (at-row (λ row. ltb 0 (row .pictures)) (table ++ highRates) refl mode refl)
 
--- "in modes 0 to 2" a picture has its address to itself; "in modes 3 to 5", and in what is said past the table, two share one
+-- and none has more than three sub-frame bits can tell apart
+pub few-pictures : (mode : ℕ) → picturesAt mode ≤ 8
+unfolding picturesAt everyRow
+few-pictures mode = leb-true _ 8 (at-row (λ row. leb (row .pictures) 8) (table ++ highRates) refl mode refl)
+
+-- "in modes 0 to 2" a picture has its address to itself; "in modes 3 to 5" two share one; and "in modes 3 to 10", and in what is said past the tables, several do
 pub alone : (mode : ℕ) → mode < 3 → picturesAt mode ≡ 1
 unfolding picturesAt
 alone zero few = refl
@@ -39,15 +46,22 @@ alone (suc zero) few = refl
 alone (suc (suc zero)) few = refl
 alone (suc (suc (suc mode))) few = absurd (omega arith)
 
-pub pairs : (mode : ℕ) → 3 ≤ mode → picturesAt mode ≡ 2
+pub pairs : (mode : ℕ) → 3 ≤ mode → mode ≤ 5 → picturesAt mode ≡ 2
 unfolding picturesAt
-pairs zero more = absurd (omega arith)
-pairs (suc zero) more = absurd (omega arith)
-pairs (suc (suc zero)) more = absurd (omega arith)
-pairs (suc (suc (suc zero))) more = refl
-pairs (suc (suc (suc (suc zero)))) more = refl
-pairs (suc (suc (suc (suc (suc zero))))) more = refl
-pairs (suc (suc (suc (suc (suc (suc mode)))))) more = refl
+pairs zero more few = absurd (omega arith)
+pairs (suc zero) more few = absurd (omega arith)
+pairs (suc (suc zero)) more few = absurd (omega arith)
+pairs (suc (suc (suc zero))) more few = refl
+pairs (suc (suc (suc (suc zero)))) more few = refl
+pairs (suc (suc (suc (suc (suc zero))))) more few = refl
+pairs (suc (suc (suc (suc (suc (suc mode)))))) more few = absurd (omega arith)
+
+pub several-share : (mode : ℕ) → 3 ≤ mode → 1 < picturesAt mode
+unfolding picturesAt everyRow
+several-share zero more = absurd (omega arith)
+several-share (suc zero) more = absurd (omega arith)
+several-share (suc (suc zero)) more = absurd (omega arith)
+several-share (suc (suc (suc mode))) more = ltb-true 1 _ (at-row (λ row. ltb 1 (row .pictures)) (drop 3 (table ++ highRates)) refl mode refl)
 
 -- "with the flag places and drop rules of modes 0, 1 and 2": these go by the rate, and modes 3, 4 and 5 have that of 0, 1 and 2
 pub same-rate : (mode : ℕ) → mode < 3 → rateAt (3 + mode) ≡ rateAt mode
@@ -56,3 +70,34 @@ same-rate zero few = refl
 same-rate (suc zero) few = refl
 same-rate (suc (suc zero)) few = refl
 same-rate (suc (suc (suc mode))) few = absurd (omega arith)
+
+-- a mode of a high frame rate is counted, and it is one of 6 to 10
+first-only : (s t : Bool) → (s && not t) ≡ true → (s ≡ true) × (t ≡ false)
+first-only true true e = absurd (true≢false (sym e))
+first-only true false e = (refl, refl)
+first-only false t e = absurd (true≢false (sym e))
+
+pub high-counted : (mode : ℕ) → highRate mode ≡ true → uncounted mode ≡ false
+unfolding highRate
+high-counted mode e = first-only (unknown mode) (uncounted mode) e .1
+
+pub high-exactly : (mode : ℕ) → (highRate mode ≡ true) ↔ ((6 ≤ mode) × (mode ≤ 10))
+unfolding highRate unknown uncounted
+high-exactly mode = (
+  λ e. (let both = first-only (leb 6 mode) (leb 11 mode) e in
+      let few = leb-false 11 mode (both .1) in (leb-true 6 mode (both .0), omega arith)),
+  λ within. (let more = le-leb 6 mode (within .0) in
+      let few : leb 11 mode ≡ false = lt-leb 11 mode (omega arith) in
+      rw (more, few)),
+)
+
+-- and to a mode of no high frame rate 2 is given everywhere or nowhere
+pub low-known : (mode : ℕ) → highRate mode ≡ false → unknown mode ≡ uncounted mode
+unfolding highRate unknown uncounted
+low-known mode e = go (leb 6 mode) refl (leb 11 mode) refl e
+  where
+    go : (s : Bool) → leb 6 mode ≡ s → (t : Bool) → leb 11 mode ≡ t → (s && not t) ≡ false → s ≡ t
+    go true s true t e = refl
+    go true s false t e = absurd (true≢false e)
+    go false s true t e = let few = leb-false 6 mode s in let more = leb-true 11 mode t in absurd (omega arith)
+    go false s false t e = refl

@@ -1,13 +1,13 @@
--- A call by mode: 2 where the mode is unknown, and else what the call answers by the mode's row.
+-- A call that counts by mode: 2 where nothing is counted in the mode, and else what the call answers by the mode's row.
 -- Assumes nothing.
 use Prim.Native.Nat.{ℕ, _+_}
 use mathlib.Core.Path.{_≡_, refl, sym, _∙_}
 use mathlib.Core.Bool.{Bool, true, false}
 use Rattle.rates.specs.declared.types.Rate.{Rate}
-use Rattle.modes.specs.Modes.{unknown, rateAt, picturesAt, inMode}
+use Rattle.modes.specs.Modes.{uncounted, rateAt, picturesAt, inMode}
 
 module _ {A : Type 0} (refused : ℕ → A) (mode : ℕ) (call : Rate → ℕ → A) where
-  module _ (past : Bool) (asked : past ≡ unknown mode) where
+  module _ (past : Bool) (asked : past ≡ uncounted mode) where
     pub turned-away : past ≡ true → refused 2 ≡ inMode refused mode call
     turned-away e = rw (← asked, e)
 
@@ -17,15 +17,15 @@ module _ {A : Type 0} (refused : ℕ → A) (mode : ℕ) (call : Rate → ℕ �
     by-its-row e rate last given known share told = told ∙ rw (known, share, ← asked, e)
 
   -- in a mode that is known the answer is that of its row
-  pub known-is : unknown mode ≡ false → inMode refused mode call ≡ call (rateAt mode) (picturesAt mode)
+  pub known-is : uncounted mode ≡ false → inMode refused mode call ≡ call (rateAt mode) (picturesAt mode)
   known-is known = rw known
 
   -- and what is no refusal was answered in a mode that is known
   pub answered :
       (given : A) → ((n : ℕ) → refused n ≡ given → ⊥) → inMode refused mode call ≡ given
-      → (unknown mode ≡ false) × (call (rateAt mode) (picturesAt mode) ≡ given)
-  answered given apart e = go (unknown mode) refl
+      → (uncounted mode ≡ false) × (call (rateAt mode) (picturesAt mode) ≡ given)
+  answered given apart e = go (uncounted mode) refl
     where
-      go : (t : Bool) → unknown mode ≡ t → (unknown mode ≡ false) × (call (rateAt mode) (picturesAt mode) ≡ given)
-      go true t = absurd (apart 2 (turned-away (unknown mode) refl t ∙ e))
+      go : (t : Bool) → uncounted mode ≡ t → (uncounted mode ≡ false) × (call (rateAt mode) (picturesAt mode) ≡ given)
+      go true t = absurd (apart 2 (turned-away (uncounted mode) refl t ∙ e))
       go false t = (t, sym (known-is t) ∙ e)

@@ -2,6 +2,8 @@
 pub mod InMode
 -- EachMode  what a computed test over the rows says of every mode, that an address has a picture; and which modes have which row
 pub mod EachMode
+-- InCode    what the code says of each mode, row by row
+pub mod InCode
 -- Counted   in a mode that is known, each call that counts answers as by the mode's row
 pub mod Counted
 -- Told      a carrier that takes its refusals from a record's answer refuses as its own list says

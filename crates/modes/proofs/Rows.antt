@@ -19,7 +19,7 @@ use Rattle.pictures.specs.Pictures.{picturesInDay, pictureNumber, numberInSecon
 use Rattle.pictures.specs.Calls.{pictureRefusals, twoRefusals, numberRefusals, numberOf, inSecondOf, pictureOf, fieldsOf, spanOf, plusOf}
 use Rattle.record.specs.declared.types.Record.{Record}
 use Rattle.modes.specs.declared.types.Shows.{Shows}
-use Rattle.modes.specs.Modes.{rateAt, picturesAt, withMode}
+use Rattle.modes.specs.Modes.{rateAt, picturesAt, withMode, withCounting}
 use Rattle.modes.proofs.Told.{carriedRows}
 use Rattle.modes.specs.Calls.{numberIn, inSecondIn, pictureIn, fieldsIn, spanIn, plusIn, bitsRefusalsIn, writeRefusalsIn}
 
@@ -36,49 +36,49 @@ module _ (mode : ℕ) (drop : Flag) where
   -- the calls that count, each as one list
   pub number-rows :
       (p : Picture)
-      → numberIn mode drop p ≡ answer Unnumbered (withMode mode (pictureRefusals (rateAt mode) (picturesAt mode) drop p)) (Number (record { 0 = number p }))
+      → numberIn mode drop p ≡ answer Unnumbered (withCounting mode (pictureRefusals (rateAt mode) (picturesAt mode) drop p)) (Number (record { 0 = number p }))
   unfolding numberIn numberOf
   number-rows p = refl
 
   pub in-second-rows :
       (p : Picture)
       → inSecondIn mode drop p
-      ≡ answer Uncounted (withMode mode (pictureRefusals (rateAt mode) (picturesAt mode) drop p)) (Counted (record { 0 = numberInSecond (picturesAt mode) p }))
+      ≡ answer Uncounted (withCounting mode (pictureRefusals (rateAt mode) (picturesAt mode) drop p)) (Counted (record { 0 = numberInSecond (picturesAt mode) p }))
   unfolding inSecondIn inSecondOf
   in-second-rows p = refl
 
   pub picture-rows :
       (n : DayFrame)
-      → pictureIn mode drop n ≡ answer Unpictured (withMode mode (numberRefusals (rateAt mode) (picturesAt mode) drop (n .0))) (At (numbered (n .0)))
+      → pictureIn mode drop n ≡ answer Unpictured (withCounting mode (numberRefusals (rateAt mode) (picturesAt mode) drop (n .0))) (At (numbered (n .0)))
   unfolding pictureIn pictureOf
   picture-rows n = refl
 
-  pub fields-rows : (p : Picture) → fieldsIn mode drop p ≡ answer Unpictured (withMode mode (pictureRefusals (rateAt mode) (picturesAt mode) drop p)) (At p)
+  pub fields-rows : (p : Picture) → fieldsIn mode drop p ≡ answer Unpictured (withCounting mode (pictureRefusals (rateAt mode) (picturesAt mode) drop p)) (At p)
   unfolding fieldsIn fieldsOf
   fields-rows p = refl
 
   pub span-rows :
       (from to : Picture)
       → spanIn mode drop from to
-      ≡ answer Unmeasured (withMode mode (twoRefusals (rateAt mode) (picturesAt mode) drop from to)) (Frames (distanceOf day (number from) (number to)))
+      ≡ answer Unmeasured (withCounting mode (twoRefusals (rateAt mode) (picturesAt mode) drop from to)) (Frames (distanceOf day (number from) (number to)))
   unfolding spanIn spanOf
   span-rows from to = refl
 
   pub plus-rows :
       (p : Picture) (z : ℤ)
       → plusIn mode drop p z
-      ≡ answer Unpictured (withMode mode (pictureRefusals (rateAt mode) (picturesAt mode) drop p)) (At (numbered (sumOf day (number p) z)))
+      ≡ answer Unpictured (withCounting mode (pictureRefusals (rateAt mode) (picturesAt mode) drop p)) (At (numbered (sumOf day (number p) z)))
   unfolding plusIn plusOf
   plus-rows p z = refl
 
   -- and each follows the order
-  pub picture-rows-in-order : (p : Picture) → inOrder theOrder (withMode mode (pictureRefusals (rateAt mode) (picturesAt mode) drop p)) ≡ true
+  pub picture-rows-in-order : (p : Picture) → inOrder theOrder (withCounting mode (pictureRefusals (rateAt mode) (picturesAt mode) drop p)) ≡ true
   picture-rows-in-order p = refl
 
-  pub two-rows-in-order : (from to : Picture) → inOrder theOrder (withMode mode (twoRefusals (rateAt mode) (picturesAt mode) drop from to)) ≡ true
+  pub two-rows-in-order : (from to : Picture) → inOrder theOrder (withCounting mode (twoRefusals (rateAt mode) (picturesAt mode) drop from to)) ≡ true
   two-rows-in-order from to = refl
 
-  pub number-rows-in-order : (n : ℕ) → inOrder theOrder (withMode mode (numberRefusals (rateAt mode) (picturesAt mode) drop n)) ≡ true
+  pub number-rows-in-order : (n : ℕ) → inOrder theOrder (withCounting mode (numberRefusals (rateAt mode) (picturesAt mode) drop n)) ≡ true
   number-rows-in-order n = refl
 
 -- the calls of the record have one list by definition

@@ -29,12 +29,12 @@ bitsIn (Unpackable n) = n
 
 -- of bits that a list of refusals comes before
 module _ (rows : List Refusal) (info : ℕ) where
-  refused-by-rows :
+  pub refused-by-rows :
       {A : Type 0} (refused : ℕ → A) (accepted : A) (n : ℕ) → answer Unpackable rows (Bits info) ≡ Unpackable n → refused n ≡ answer refused rows accepted
   unfolding told
   refused-by-rows refused accepted n e = ap (told refused accepted) (sym e) ∙ carried (told refused accepted) Unpackable (Bits info) rows
 
-  made-by-rows : (n : ℕ) → answer Unpackable rows (Bits info) ≡ Bits n → Clear rows × (info ≡ n)
+  pub made-by-rows : (n : ℕ) → answer Unpackable rows (Bits info) ≡ Bits n → Clear rows × (info ≡ n)
   unfolding bitsIn
   made-by-rows n e = let taken = accepted-as Unpackable (Bits info) rows (Bits n) apart e in (taken .0, ap bitsIn (taken .1))
     where

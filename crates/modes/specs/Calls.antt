@@ -1,4 +1,5 @@
--- What each call answers by mode: 2 where the mode is unknown, and else what the pictures or the record answer by the mode's row.
+-- What each call answers by mode: 2 where the mode is unknown, and else what the pictures or the record answer by the mode's row. Pictures are counted in modes 0 to 10; the calls
+-- of the record are those of the linear track and the interval line, and know modes 0 to 5 (those of modes 6 to 10 are in `superframes`).
 -- Assumes nothing.
 use Prim.Native.Nat.{ℕ}
 use mathlib.Core.Bool.{_||_}
@@ -46,7 +47,7 @@ spanIn mode drop from to = inMode Unmeasured mode (λ rate pictures. spanOf rate
 unfoldable pub plusIn : ℕ → Flag → Picture → ℤ → Pictured
 plusIn mode drop p count = inMode Unpictured mode (λ rate pictures. plusOf rate pictures drop p count)
 
--- the record that 64 information bits hold, of the first picture, and the information bits that a record makes
+-- the record that 64 information bits hold, in modes 0 to 5 of the first picture, and the information bits that a record makes
 abbrev pub recordIn : ℕ → ℕ → Record
 recordIn mode info = recordOf (rateAt mode) info
 

@@ -6,6 +6,12 @@ pub enum Rated {
     Refused(u8),
 }
 
+// The row of a mode, its rate and the place of the last picture that shares an address; or the number that the mode is refused with.
+pub enum Rowed {
+    Known(Rate, u8),
+    Refused(u8),
+}
+
 // Which picture of an address a word, a line or a packet shows: the first, or the one that its mark says.
 pub enum Shows {
     First,

@@ -9,7 +9,7 @@ use borrow.Author.Tests.{eq-eqb, ne-eqb}
 use Rattle.refusals.specs.declared.types.Verdict.the-variants.{Sound, Refused as Unsound}
 use Rattle.refusals.specs.Answer.{verdictOf}
 use Rattle.bits.specs.Bits.{someAbove}
-use Rattle.modes.specs.Modes.{unknown}
+use Rattle.modes.specs.Modes.{uncounted}
 use Rattle.words.specs.Words.{wrongWord, lowSet, someWord, withOpposite, sum9}
 use Rattle.packets.specs.Packet.{isHeaded, checksumOf}
 use Rattle.packets.specs.Calls.{formRefusals}
@@ -18,7 +18,7 @@ module _ (mode : ℕ) (words : List ℕ) where
   pub wrong-size : (length words ≡ 23 → ⊥) → Unsound 1 ≡ verdictOf (formRefusals mode words)
   wrong-size other = rw (ne-eqb (length words) 23 other)
 
-  module _ (size : length words ≡ 23) (past : Bool) (e2 : past ≡ unknown mode) where
+  module _ (size : length words ≡ 23) (past : Bool) (e2 : past ≡ uncounted mode) where
     pub no-mode : past ≡ true → Unsound 2 ≡ verdictOf (formRefusals mode words)
     no-mode t = rw (eq-eqb (length words) 23 size, ← e2, t)
 
@@ -26,7 +26,7 @@ module _ (mode : ℕ) (words : List ℕ) where
       pub high-word : high ≡ true → Unsound 3 ≡ verdictOf (formRefusals mode words)
       high-word t = rw (eq-eqb (length words) 23 size, ← e2, known, ← e3, t)
 
-      module _ (low : high ≡ false) (headed : Bool) (e4 : headed ≡ isHeaded words) where
+      module _ (low : high ≡ false) (headed : Bool) (e4 : headed ≡ isHeaded mode words) where
         pub no-header : not headed ≡ true → Unsound 4 ≡ verdictOf (formRefusals mode words)
         no-header t = rw (eq-eqb (length words) 23 size, ← e2, known, ← e3, low, ← e4, t)
 

@@ -6,7 +6,7 @@ pub struct Picture {
     pub place: u8,
 }
 
-// The number of a picture within its second, which ends at 59 where two share an address at 30. A kind of its own, so that it is mixed neither with a number of the day
+// The number of a picture within its second, which ends at 59 where two share an address at 30, and at 119 at 120. A kind of its own, so that it is mixed neither with a number of the day
 // nor with the frames of an address, which end at 29.
 pub struct PictureInSecond(pub u16);
 

@@ -15,14 +15,15 @@ abbrev pub valueOf : Parsed → ℕ
 valueOf (Value n) = n
 valueOf Unsound = 0
 
--- the most that a field may hold, by its letter: f, k, b, l, n, and s
+-- the most that a field may hold, by its letter: f, k, h, b, l, n, and s
 unfoldable pub plainLimit : ℕ → ℕ
 plainLimit letter =
     cond (eqb letter 102) 1
     (cond (eqb letter 107) 3
+    (cond (eqb letter 104) 5
     (cond (eqb letter 98) 255
     (cond (eqb letter 108) 400
-    (cond (eqb letter 110) 4294967295 18446744073709551615))))
+    (cond (eqb letter 110) 4294967295 18446744073709551615)))))
 
 -- the same with c, for a count that is kept as how far it is above the lowest
 unfoldable pub limitOf : ℕ → ℕ

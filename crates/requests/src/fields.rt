@@ -117,14 +117,15 @@ pub fn number_in(text: &[u8], base: u64, most: u64) -> Parsed
     Parsed::Value(value)
 }
 
-// A form has a letter for each number of a request, or of the rest of one: b for a byte, c for COUNT, f for a flag, k for KIND, l for LENGTH,
-// n for N, and s for START and LIMIT.
+// A form has a letter for each number of a request, or of the rest of one: b for a byte, c for COUNT, f for a flag, k for KIND, h for the KIND of a high
+// frame rate, l for LENGTH, n for N, and s for START and LIMIT.
 fn limit_of(letter: u8) -> u64
     ensures { λ r. ⌜ r ≡ plainLimit letter ⌝ }
 {
     match letter {
         b'f' => 1,
         b'k' => 3,
+        b'h' => 5,
         b'b' => 255,
         b'l' => 400,
         b'n' => 0xffff_ffff,

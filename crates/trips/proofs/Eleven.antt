@@ -2,7 +2,7 @@
 -- Assumes nothing.
 use Prim.Native.Nat.{ℕ}
 use mathlib.Core.Path.{_≡_, refl}
-use mathlib.Core.Bool.{true}
+use mathlib.Core.Bool.{true, false, cond}
 use mathlib.Core.List.{List}
 use mathlib.Core.Logic.{_↔_}
 use native.Mathlib.Omega.{arith}
@@ -13,7 +13,7 @@ use Rattle.refusals.proofs.First.{given-exactly}
 use Rattle.runs.specs.declared.types.Written.the-variants.{Done, Refused as Unwritten}
 use Rattle.record.specs.declared.types.Record.{Record}
 use Rattle.modes.specs.declared.types.Shows.the-variants.{ByMark}
-use Rattle.modes.specs.Modes.{withMode}
+use Rattle.modes.specs.Modes.{highRate, withMode, withCounting}
 use Rattle.modes.specs.Calls.{writeRefusalsIn}
 use Rattle.modes.specs.Shown.{unshown}
 use Rattle.ltc.specs.Calls as ltc
@@ -21,12 +21,13 @@ use Rattle.ltc.proofs.Rows as linear
 use Rattle.vitc.specs.Calls as vitc
 use Rattle.vitc.proofs.Rows as interval
 use Rattle.atc.specs.declared.types.Interface.{Interface}
+use Rattle.atc.specs.Records.{showsBy, recordRefusalsFor}
 use Rattle.atc.specs.Calls as atc
 use Rattle.atc.proofs.Answers as ancillary
 use Rattle.trips.proofs.Nineteen.{ofWritten}
 
 module _ (mode : ℕ) (r : Record) where
-  -- the record's list clears it
+  -- the record's list clears it, on a line
   abbrev pub Stands : Type 0
   Stands = Clear (withMode mode (writeRefusalsIn mode r))
 
@@ -45,7 +46,8 @@ module _ (mode : ℕ) (r : Record) where
   pub ancillary-refused-by-11 :
       (interface : Interface) (type second start : ℕ) (run : List ℕ)
       → (atc.writtenOf mode interface r type second start run ≡ Unwritten mark-set)
-      ↔ ((Stands × Clear (atc.payloadRefusals interface type second)) × (unshown mode (atc.showsBy type) r ≡ true))
+      ↔ ((Clear (withCounting mode (recordRefusalsFor mode r)) × Clear (atc.payloadRefusals mode interface type second))
+      × (cond (highRate mode) false (unshown mode (showsBy type) r) ≡ true))
   unfolding atc.writtenOf
   ancillary-refused-by-11 interface type second start run =
       let rows = atc.writtenRows mode interface r type second start run in
@@ -61,7 +63,7 @@ module _ (mode : ℕ) (r : Record) where
           exactly .0 e .1,
         )),
         λ both.
-            (let own = withMode mode (writeRefusalsIn mode r) in
+            (let own = withCounting mode (recordRefusalsFor mode r) in
             exactly .1 (
               clear-whole outside-the-clock before (clear-at unknown-mode own (both .0 .0), both .0 .1) (clear-from outside-the-clock own (both .0 .0)),
               both .1,

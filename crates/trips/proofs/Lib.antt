@@ -1,9 +1,11 @@
 -- Numbers    the laws of counting, said by mode: numbers and pictures match one to one, and adding the distance arrives
 pub mod Numbers
 -- Records    the 64 bits and a record match one to one, at every rate
--- ByMode     and in every mode, with the picture that is shown
+-- ByMode     and in every mode that a line knows, with the picture that is shown
+-- SubFrames  and where the picture is carried in sub-frame bits
 pub mod Records
 pub mod ByMode
+pub mod SubFrames
 -- Linear words:
 -- Polarity   what is made corrected has even zeros, and what is found says which of the two values of the polarity bit was made
 -- Words      what was written reads as its record, and what was read, written again by what was found, is the same
@@ -23,7 +25,7 @@ pub mod Lines
 -- Packets:
 -- WholePacket the 23 words there and back
 -- Packets    accepted packets and what they hold match one to one
--- Nineteen   19 is given exactly where a line number is claimed that can't be, and no number before 19 applies
+-- Nineteen   19 and 23: given exactly where a line number is claimed that can't be, or a mode is not named, and no number before applies
 pub mod WholePacket
 pub mod Packets
 pub mod Nineteen

@@ -108,7 +108,7 @@ module _ (rate : Rate) (r : Record) (fits : Writable (r .address) (r .groups)) w
 digits : (units tens : ℕ) → units ≤ 9 → ((units + 10 * tens) % 10 ≡ units) × ((units + 10 * tens) / 10 ≡ tens)
 digits units tens low = (omega arith, omega arith)
 
-bit-of-flag : (n : ℕ) → bitOf (flagOf (n % 2)) ≡ n % 2
+pub bit-of-flag : (n : ℕ) → bitOf (flagOf (n % 2)) ≡ n % 2
 bit-of-flag n = go (n % 2) (omega arith)
   where
     go : (b : ℕ) → b ≤ 1 → bitOf (flagOf b) ≡ b
@@ -151,7 +151,7 @@ module _ (rate : Rate) (n : ℕ) where
       ∷ (bit-of-flag (n / 2 ^ 58) ∙ part 19) i ∷ (held .1 .1 ∙ part 20) i ∷ part 21 i
       ∷ []
 
-  info-again : n < 2 ^ 64 → digitAbove9 n ≡ false → infoOf rate (recordOf rate n) ≡ n
+  pub info-again : n < 2 ^ 64 → digitAbove9 n ≡ false → infoOf rate (recordOf rate n) ≡ n
   unfolding infoOf layout
   info-again low good = ap (join layout) (fields-again good) ∙ join-split layout n low
 
@@ -208,7 +208,7 @@ module _ (rate : Rate) (n : ℕ) (low : n < 2 ^ 64) (clear : Clear (bitsRefusals
       let again = clear-with rate (recordOf rate n) (digitAbove9 n) false (groupAbove15 (recordOf rate n .groups)) false (written-of-read .1) refl clear in
       otherwise-accepted Unpackable _ (writeRefusals rate (recordOf rate n)) again ∙ ap Bits (written-of-read .0)
 
-no-bits : {n : ℕ} (k : ℕ) → Unpackable k ≡ Bits n → ⊥
+pub no-bits : {n : ℕ} (k : ℕ) → Unpackable k ≡ Bits n → ⊥
 no-bits k e = let z : _≡_ {A = ℕ} 0 1 = cc in omega arith
 
 pub no-record : {r : Record} (k : ℕ) → Unheld k ≡ Holds r → ⊥

@@ -2,7 +2,7 @@
 -- Assumes nothing.
 use Prim.Native.Nat.{ℕ, _%_, _^_, _<_, _≤_}
 use mathlib.Core.Path.{_≡_, refl, sym, ap, ap₂, _∙_}
-use mathlib.Core.Bool.{true, false, not, _||_}
+use mathlib.Core.Bool.{Bool, true, false, not, _||_}
 use mathlib.Core.List.{List, [], _∷_, _++_, append-assoc, map, map-append}
 use native.Mathlib.Omega.{arith}
 use lib.Dec.{eqb}
@@ -17,11 +17,11 @@ use Rattle.bits.specs.Bits.{toBits, someAbove, AllBits}
 use Rattle.bits.proofs.Bit.{bits-of-number, length-toBits, within-append, within-cons, within-drop, within-take}
 use Rattle.bits.proofs.Inverse.{value-toBits, toBits-value}
 use Rattle.runs.proofs.Same.{same-itself, same-elements}
-use Rattle.modes.specs.Modes.{unknown}
+use Rattle.modes.specs.Modes.{highRate, uncounted}
 use Rattle.words.specs.Words.{withOpposite, wrongWord, lowSet, someWord, dataWords, nibbleIn, bitIn, infoIn, byteIn, sum9}
 use Rattle.words.proofs.Lists.{length-dataWords, take-dataWords, drop-dataWords, shifted, gathered-below}
 use Rattle.words.proofs.Data.{AllMade, all-made, all-again, byte-value, carried-all-bits}
-use Rattle.packets.specs.Packet.{header, isHeaded, checksumOf, carriedOf, frontOf, packetWith, dataIn, typeIn, secondIn}
+use Rattle.packets.specs.Packet.{fifthWord, header, isHeaded, checksumOf, carriedOf, frontOf, packetWith, dataIn, typeIn, secondIn}
 use Rattle.packets.specs.Calls.{formRefusals}
 use Rattle.packets.proofs.Pieces.{length-carried, length-front, length-packet, checksum-of-front}
 use Rattle.atc.proofs.Answers.{size}
@@ -37,38 +37,42 @@ checksum-small : (words : List ℕ) → checksumOf words ≤ 1023
 unfolding checksumOf
 checksum-small words = ten-bits (sum9 (take 19 (drop 3 words)))
 
-header-small : someAbove 1023 header ≡ false
+header-small : (mode : ℕ) → someAbove 1023 (header mode) ≡ false
 unfolding someAbove header
-header-small = refl
+header-small mode = go (highRate mode) refl
+  where
+    go : (t : Bool) → highRate mode ≡ t → someAbove 1023 (header mode) ≡ false
+    go true t = rw t
+    go false t = rw t
 
-length-header : length header ≡ 6
+length-header : (mode : ℕ) → length (header mode) ≡ 6
 unfolding header
-length-header = refl
+length-header mode = refl
 
-module _ (info type second : ℕ) where
+module _ (mode info type second : ℕ) where
   abbrev datas : List ℕ
   datas = dataWords (carriedOf type second) info
 
   abbrev last : List ℕ
-  last = checksumOf (frontOf info type second) ∷ []
+  last = checksumOf (frontOf mode info type second) ∷ []
 
   abbrev packet : List ℕ
-  packet = packetWith info type second
+  packet = packetWith mode info type second
 
   -- the packet as header, data words and checksum
-  in-parts : packet ≡ header ++ (datas ++ last)
+  in-parts : packet ≡ header mode ++ (datas ++ last)
   unfolding packetWith frontOf
-  in-parts = append-assoc header datas last
+  in-parts = append-assoc (header mode) datas last
 
   length-datas : length datas ≡ 16
   length-datas = length-dataWords (carriedOf type second) info ∙ length-carried type second
 
   after-header : drop 6 packet ≡ datas ++ last
-  after-header = ap (drop 6) in-parts ∙ drop-at header (datas ++ last) 6 length-header
+  after-header = ap (drop 6) in-parts ∙ drop-at (header mode) (datas ++ last) 6 (length-header mode)
 
-  headed : isHeaded packet ≡ true
+  headed : isHeaded mode packet ≡ true
   unfolding isHeaded
-  headed = rw (ap (take 6) in-parts ∙ take-at header (datas ++ last) 6 length-header) (same-itself header)
+  headed = rw (ap (take 6) in-parts ∙ take-at (header mode) (datas ++ last) 6 (length-header mode)) (same-itself (header mode))
 
   data-again : dataIn packet ≡ datas
   data-again = ap (take 16) after-header ∙ take-at datas last 16 length-datas
@@ -100,20 +104,20 @@ module _ (info type second : ℕ) where
   unfolding someAbove
   small =
       rw in-parts
-      (within-append 1023 header (datas ++ last) header-small
-      (within-append 1023 datas last (every .small) (within-cons 1023 (checksumOf (frontOf info type second)) [] (checksum-small (frontOf info type second)) refl)))
+      (within-append 1023 (header mode) (datas ++ last) (header-small mode)
+      (within-append 1023 datas last (every .small) (within-cons 1023 (checksumOf (frontOf mode info type second)) [] (checksum-small (frontOf mode info type second)) refl)))
 
   summed : getD packet 22 0 ≡ checksumOf packet
   unfolding packetWith
   summed =
-      let front = frontOf info type second in
-      getD-at front (checksumOf front) [] 0 22 (length-front info type second) ∙ sym (checksum-of-front front last (length-front info type second))
+      let front = frontOf mode info type second in
+      getD-at front (checksumOf front) [] 0 22 (length-front mode info type second) ∙ sym (checksum-of-front front last (length-front mode info type second))
 
   -- a packet that was written has the form of one
-  pub form-clear : (mode : ℕ) → unknown mode ≡ false → Clear (formRefusals mode packet)
-  form-clear mode known =
-      let sized : not (eqb (length packet) 23) ≡ false = ap not (eq-eqb (length packet) 23 (length-packet info type second)) in
-      let begun : not (isHeaded packet) ≡ false = ap not headed in
+  pub form-clear : uncounted mode ≡ false → Clear (formRefusals mode packet)
+  form-clear known =
+      let sized : not (eqb (length packet) 23) ≡ false = ap not (eq-eqb (length packet) 23 (length-packet mode info type second)) in
+      let begun : not (isHeaded mode packet) ≡ false = ap not headed in
       let checked : (someWord wrongWord (dataIn packet) || not (eqb (getD packet 22 0) (checksumOf packet))) ≡ false =
       rw (data-again, every .right, eq-eqb (getD packet 22 0) (checksumOf packet) summed) in
       let low-clear : someWord lowSet (dataIn packet) ≡ false = rw data-again (every .low-clear) in
@@ -145,9 +149,9 @@ module _ (mode : ℕ) (words : List ℕ) (clear : Clear (formRefusals mode words
   abbrev sum : List ℕ
   sum = getD words 22 0 ∷ []
 
-  begins : take 6 words ≡ header
+  pub begins : take 6 words ≡ header mode
   unfolding isHeaded
-  begins = same-elements (take 6 words) header (not-false (isHeaded words) (clear-at wrong-sync rows clear))
+  begins = same-elements (take 6 words) (header mode) (not-false (isHeaded mode words) (clear-at wrong-sync rows clear))
 
   five : (someWord wrongWord parts ≡ false) × (getD words 22 0 ≡ checksumOf words)
   five =
@@ -159,11 +163,11 @@ module _ (mode : ℕ) (words : List ℕ) (clear : Clear (formRefusals mode words
       let none : drop 23 words ≡ [] = drop-of-length-le words {i = 23} (omega (arith, size mode words clear)) in
       drop-drop 16 6 words ∙ drop-cons words 22 0 (omega (arith, size mode words clear)) ∙ rw none
 
-  in-pieces : words ≡ (header ++ parts) ++ sum
+  in-pieces : words ≡ (header mode ++ parts) ++ sum
   in-pieces =
       sym (take-append-drop 6 words)
       ∙ ap₂ (λ (xs ys : List ℕ). xs ++ ys) begins (sym (take-append-drop 16 (drop 6 words)) ∙ ap (λ (l : List ℕ). parts ++ l) ends)
-      ∙ sym (append-assoc header parts sum)
+      ∙ sym (append-assoc (header mode) parts sum)
 
   after : length (drop 6 words) ≡ 17
   after = length-drop 6 words ∙ rw (size mode words clear)
@@ -178,18 +182,18 @@ module _ (mode : ℕ) (words : List ℕ) (clear : Clear (formRefusals mode words
       ∙ sym (map-append bitIn (take 8 (drop 6 words)) (take 8 (drop 14 words)))
       ∙ ap (map bitIn) (sym (take-add 8 8 (drop 6 words) ∙ ap (λ (l : List ℕ). take 8 (drop 6 words) ++ take 8 l) later))
 
-  front-again : frontOf (infoIn parts) (typeIn words) (secondIn words) ≡ header ++ parts
+  front-again : frontOf mode (infoIn parts) (typeIn words) (secondIn words) ≡ header mode ++ parts
   unfolding frontOf
   front-again =
       let within = within-take 1023 16 (drop 6 words) (within-drop 1023 6 words (clear-at element-too-high rows clear)) in
-      rw carried-again (ap (λ (l : List ℕ). header ++ l) (all-again parts within (five .0) (clear-at low-bits-set rows clear)))
+      rw carried-again (ap (λ (l : List ℕ). header mode ++ l) (all-again parts within (five .0) (clear-at low-bits-set rows clear)))
 
-  pub packet-again : packetWith (infoIn parts) (typeIn words) (secondIn words) ≡ words
+  pub packet-again : packetWith mode (infoIn parts) (typeIn words) (secondIn words) ≡ words
   unfolding packetWith
   packet-again =
-      let long : length (header ++ parts) ≡ 22 = length-append header parts ∙ rw (length-header, length-take-le 16 (drop 6 words) (omega (arith, after))) in
-      let check : checksumOf (header ++ parts) ≡ getD words 22 0 =
-      sym (checksum-of-front (header ++ parts) sum long) ∙ ap checksumOf (sym in-pieces) ∙ sym (five .1) in
+      let long : length (header mode ++ parts) ≡ 22 = length-append (header mode) parts ∙ rw (length-header mode, length-take-le 16 (drop 6 words) (omega (arith, after))) in
+      let check : checksumOf (header mode ++ parts) ≡ getD words 22 0 =
+      sym (checksum-of-front (header mode ++ parts) sum long) ∙ ap checksumOf (sym in-pieces) ∙ sym (five .1) in
       rw (front-again, check) (sym in-pieces)
 
   pub info-below : infoIn parts < 2 ^ 64

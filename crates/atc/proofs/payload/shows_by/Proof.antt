@@ -4,7 +4,7 @@ use mathlib.Core.Path.{_≡_}
 use Prim.Native.Nat.{ℕ}
 use borrow.Author.Tests.{ne-eqb}
 use Rattle.modes.specs.declared.types.Shows.the-variants.{First, ByMark}
-use Rattle.atc.specs.Calls.{showsBy}
+use Rattle.atc.specs.Records.{showsBy}
 use Rattle.atc.proofs.payload.shows_by.Statement.{statement}
 use Rattle.atc.proofs.payload.shows_by.Tie as tie
 

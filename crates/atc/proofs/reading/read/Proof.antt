@@ -53,9 +53,6 @@ returns-2 c = search barred
 enum-told-2 : tie.Need-enum-told-2
 enum-told-2 c = search needs
 
-shows-by-requires : tie.Need-shows-by-requires
-shows-by-requires c κs = search needs
-
 sub-info-in : tie.Need-sub-info-in
 sub-info-in c = search needs
 
@@ -68,8 +65,8 @@ part-info-in-end c = search to-22
 info-in-requires : tie.Need-info-in-requires
 info-in-requires c κs = search needs
 
-picture-from-bits-requires : tie.Need-picture-from-bits-requires
-picture-from-bits-requires c κs = search needs
+record-in-requires : tie.Need-record-in-requires
+record-in-requires c κs = search needs
 
 packet-as-requires : tie.Need-packet-as-requires
 packet-as-requires c κs = search needs
@@ -97,11 +94,10 @@ read-spec =
     enum-known-carried
     returns-2
     enum-told-2
-    shows-by-requires
     sub-info-in
     part-info-in-start
     part-info-in-end
     info-in-requires
-    picture-from-bits-requires
+    record-in-requires
     packet-as-requires
     returns-3)

@@ -6,8 +6,8 @@ use Rattle.atc.proofs.WriteTests.{told, no-mode, no-payload, no-record,
 use Rattle.atc.proofs.writing.write.Statement.{statement}
 use Rattle.atc.proofs.writing.write.Tie as tie
 
-is-unknown-requires : tie.Need-is-unknown-requires
-is-unknown-requires c κs = search needs
+is-uncounted-requires : tie.Need-is-uncounted-requires
+is-uncounted-requires c κs = search needs
 
 returns : tie.Need-returns
 returns c = no-mode _ _ _ _ _ _ _ (search told)
@@ -24,11 +24,8 @@ returns-2 c = no-payload _ _ _ _ _ _ _ (search told) _ (search told)
 enum-told : tie.Need-enum-told
 enum-told c = search needs
 
-shows-by-requires : tie.Need-shows-by-requires
-shows-by-requires c κs = search needs
-
-picture-to-bits-requires : tie.Need-picture-to-bits-requires
-picture-to-bits-requires c κs = search needs
+bits-of-requires : tie.Need-bits-of-requires
+bits-of-requires c κs = search needs
 
 enum-known-packed : tie.Need-enum-known-packed
 enum-known-packed c = search needs
@@ -40,26 +37,25 @@ place-requires : tie.Need-place-requires
 place-requires c κs = search needs
 
 returns-3 : tie.Need-returns-3
-returns-3 c = no-record _ _ _ _ _ _ _ (search told) (search told) _ (c .before .before .before .before .shows-by .ensures) _ (search told)
+returns-3 c = no-record _ _ _ _ _ _ _ (search told) (search told) _ (search told)
 
 same-length : tie.Need-same-length
 same-length c = search needs
 
 returns-4 : tie.Need-returns-4
-returns-4 c = placed _ _ _ _ _ _ _ (search told) (search told) _ (c .before .before .before .before .before .before .before .before .shows-by .ensures) _ (search told) _ _ (c .before .before .place .ensures)
+returns-4 c = placed _ _ _ _ _ _ _ (search told) (search told) _ (search told) _ _ (c .before .before .place .ensures)
 
 pub write-spec : {M : Type 1} → statement M
 write-spec =
     tie.close
     (tie.spec
-    is-unknown-requires
+    is-uncounted-requires
     returns
     judge-requires
     enum-known-carried
     returns-2
     enum-told
-    shows-by-requires
-    picture-to-bits-requires
+    bits-of-requires
     enum-known-packed
     enum-known-packed-2
     place-requires

@@ -12,13 +12,13 @@ use Rattle.pictures.specs.declared.types.Picture.{Picture}
 use Rattle.pictures.specs.declared.types.Pictured.{Pictured}
 use Rattle.pictures.specs.declared.types.Pictured.the-variants.{Refused as Unpictured}
 use Rattle.pictures.specs.Calls.{plusOf}
-use Rattle.modes.specs.Modes.{unknown, rateAt, picturesAt}
+use Rattle.modes.specs.Modes.{uncounted, rateAt, picturesAt}
 use Rattle.modes.specs.Calls.{plusIn}
 use Rattle.modes.proofs.InMode.{turned-away, by-its-row}
 use Rattle.modes.proofs.counting.add.Statement.{statement}
 use Rattle.modes.proofs.counting.add.Tie as tie
 
-module _ (mode : ℕ) (drop : Flag) (p : Picture) (z : ℤ) (past : Bool) (asked : past ≡ unknown mode) where
+module _ (mode : ℕ) (drop : Flag) (p : Picture) (z : ℤ) (past : Bool) (asked : past ≡ uncounted mode) where
   no-mode : past ≡ true → Unpictured 2 ≡ plusIn mode drop p z
   unfolding plusIn
   no-mode e = turned-away Unpictured mode (λ rate pictures. plusOf rate pictures drop p z) past asked e
@@ -30,8 +30,8 @@ module _ (mode : ℕ) (drop : Flag) (p : Picture) (z : ℤ) (past : Bool) (asked
   known e rate last y given at share same told =
       by-its-row Unpictured mode (λ rate pictures. plusOf rate pictures drop p z) past asked e rate last given at share (told ∙ ap (plusOf rate (last + 1) drop p) same)
 
-is-unknown-requires : tie.Need-is-unknown-requires
-is-unknown-requires c κs = search needs
+is-uncounted-requires : tie.Need-is-uncounted-requires
+is-uncounted-requires c κs = search needs
 
 returns : tie.Need-returns
 returns c = search no-mode
@@ -51,4 +51,4 @@ returns-2 c = search (known, toZ-ofZ)
 pub add-spec : {M : Type 1} → statement M
 add-spec =
     tie.close
-    (tie.spec is-unknown-requires returns rate-at-requires last-place-requires add-requires returns-2)
+    (tie.spec is-uncounted-requires returns rate-at-requires last-place-requires add-requires returns-2)

@@ -10,13 +10,13 @@ use Rattle.clock.specs.declared.types.Span.{Span}
 use Rattle.clock.specs.declared.types.Span.the-variants.{Refused as Unmeasured}
 use Rattle.pictures.specs.declared.types.Picture.{Picture}
 use Rattle.pictures.specs.Calls.{spanOf}
-use Rattle.modes.specs.Modes.{unknown, rateAt, picturesAt}
+use Rattle.modes.specs.Modes.{uncounted, rateAt, picturesAt}
 use Rattle.modes.specs.Calls.{spanIn}
 use Rattle.modes.proofs.InMode.{turned-away, by-its-row}
 use Rattle.modes.proofs.counting.distance.Statement.{statement}
 use Rattle.modes.proofs.counting.distance.Tie as tie
 
-module _ (mode : ℕ) (drop : Flag) (from to : Picture) (past : Bool) (asked : past ≡ unknown mode) where
+module _ (mode : ℕ) (drop : Flag) (from to : Picture) (past : Bool) (asked : past ≡ uncounted mode) where
   no-mode : past ≡ true → Unmeasured 2 ≡ spanIn mode drop from to
   unfolding spanIn
   no-mode e = turned-away Unmeasured mode (λ rate pictures. spanOf rate pictures drop from to) past asked e
@@ -28,8 +28,8 @@ module _ (mode : ℕ) (drop : Flag) (from to : Picture) (past : Bool) (asked : p
   known e rate last given at share told =
       by-its-row Unmeasured mode (λ rate pictures. spanOf rate pictures drop from to) past asked e rate last given at share told
 
-is-unknown-requires : tie.Need-is-unknown-requires
-is-unknown-requires c κs = search needs
+is-uncounted-requires : tie.Need-is-uncounted-requires
+is-uncounted-requires c κs = search needs
 
 returns : tie.Need-returns
 returns c = search no-mode
@@ -49,4 +49,4 @@ returns-2 c = search known
 pub distance-spec : {M : Type 1} → statement M
 distance-spec =
     tie.close
-    (tie.spec is-unknown-requires returns rate-at-requires last-place-requires distance-requires returns-2)
+    (tie.spec is-uncounted-requires returns rate-at-requires last-place-requires distance-requires returns-2)

@@ -10,13 +10,13 @@ use Rattle.clock.specs.declared.types.DayFrame.{DayFrame}
 use Rattle.pictures.specs.declared.types.Pictured.{Pictured}
 use Rattle.pictures.specs.declared.types.Pictured.the-variants.{Refused as Unpictured}
 use Rattle.pictures.specs.Calls.{pictureOf}
-use Rattle.modes.specs.Modes.{unknown, rateAt, picturesAt}
+use Rattle.modes.specs.Modes.{uncounted, rateAt, picturesAt}
 use Rattle.modes.specs.Calls.{pictureIn}
 use Rattle.modes.proofs.InMode.{turned-away, by-its-row}
 use Rattle.modes.proofs.counting.picture_of.Statement.{statement}
 use Rattle.modes.proofs.counting.picture_of.Tie as tie
 
-module _ (mode : ℕ) (drop : Flag) (n : DayFrame) (past : Bool) (asked : past ≡ unknown mode) where
+module _ (mode : ℕ) (drop : Flag) (n : DayFrame) (past : Bool) (asked : past ≡ uncounted mode) where
   no-mode : past ≡ true → Unpictured 2 ≡ pictureIn mode drop n
   unfolding pictureIn
   no-mode e = turned-away Unpictured mode (λ rate pictures. pictureOf rate pictures drop n) past asked e
@@ -28,8 +28,8 @@ module _ (mode : ℕ) (drop : Flag) (n : DayFrame) (past : Bool) (asked : past �
   known e rate last given at share told =
       by-its-row Unpictured mode (λ rate pictures. pictureOf rate pictures drop n) past asked e rate last given at share told
 
-is-unknown-requires : tie.Need-is-unknown-requires
-is-unknown-requires c κs = search needs
+is-uncounted-requires : tie.Need-is-uncounted-requires
+is-uncounted-requires c κs = search needs
 
 returns : tie.Need-returns
 returns c = search no-mode
@@ -49,4 +49,4 @@ returns-2 c = search known
 pub picture-of-spec : {M : Type 1} → statement M
 picture-of-spec =
     tie.close
-    (tie.spec is-unknown-requires returns rate-at-requires last-place-requires picture-of-requires returns-2)
+    (tie.spec is-uncounted-requires returns rate-at-requires last-place-requires picture-of-requires returns-2)

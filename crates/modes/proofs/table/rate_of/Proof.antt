@@ -7,14 +7,13 @@ use borrow.Author.Needs.{needs}
 use Rattle.rates.specs.declared.types.Rate.{Rate}
 use Rattle.modes.specs.declared.types.Rated.the-variants.{Known, Refused}
 use Rattle.modes.specs.Modes.{unknown, rateAt, ratedOf}
-use Rattle.modes.proofs.InMode.{turned-away}
 use Rattle.modes.proofs.table.rate_of.Statement.{statement}
 use Rattle.modes.proofs.table.rate_of.Tie as tie
 
 module _ (mode : ℕ) (past : Bool) (asked : past ≡ unknown mode) where
   no-mode : past ≡ true → Refused 2 ≡ ratedOf mode
   unfolding ratedOf
-  no-mode e = turned-away Refused mode (λ rate pictures. Known rate) past asked e
+  no-mode e = rw (← asked, e)
 
   known : past ≡ false → (rate : Rate) → rate ≡ rateAt mode → Known rate ≡ ratedOf mode
   unfolding ratedOf

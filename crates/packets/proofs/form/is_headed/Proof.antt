@@ -10,7 +10,7 @@ use lib.ListN.{length, getD, take, drop}
 use lib.Seq.{drop-cons}
 use borrow.Author.Needs.{needs}
 use Rattle.runs.specs.Run.{same}
-use Rattle.packets.specs.Packet.{header, isHeaded}
+use Rattle.packets.specs.Packet.{fifthWord, header, isHeaded}
 use Rattle.packets.proofs.form.is_headed.Statement.{statement}
 use Rattle.packets.proofs.form.is_headed.Tie as tie
 
@@ -19,14 +19,17 @@ module _ (words : List ℕ) where
   next k n h e = rw (drop-cons words k 0 h) (ap (λ (l : List ℕ). getD words k 0 ∷ l) e)
 
   headed :
-      6 ≤ length words
+      (mode fifth : ℕ) → fifth ≡ fifthWord mode → 6 ≤ length words
       → (eqb (getD words 0 0) 0x000 && (eqb (getD words 1 0) 0x3FF && (eqb (getD words 2 0) 0x3FF
-      && (eqb (getD words 3 0) 0x260 && (eqb (getD words 4 0) 0x260 && eqb (getD words 5 0) 0x110)))))
-      ≡ isHeaded words
+      && (eqb (getD words 3 0) 0x260 && (eqb (getD words 4 0) fifth && eqb (getD words 5 0) 0x110)))))
+      ≡ isHeaded mode words
   unfolding isHeaded header same
-  headed h =
+  headed mode fifth told h =
       let six = next 0 5 (omega arith) (next 1 4 (omega arith) (next 2 3 (omega arith) (next 3 2 (omega arith) (next 4 1 (omega arith) (next 5 0 (omega arith) refl))))) in
-      sym (ap (λ (l : List ℕ). same l header) six ∙ rw (and-true (eqb (getD words 5 0) 0x110)))
+      sym (ap (λ (l : List ℕ). same l (header mode)) six ∙ rw (← told, and-true (eqb (getD words 5 0) 0x110)))
+
+fifth-word-requires : tie.Need-fifth-word-requires
+fifth-word-requires c κs = search needs
 
 shared-slice-read-result : tie.Need-shared-slice-read-result
 shared-slice-read-result c = search needs
@@ -47,12 +50,13 @@ shared-slice-read-result-6 : tie.Need-shared-slice-read-result-6
 shared-slice-read-result-6 c = search needs
 
 returns : tie.Need-returns
-returns c = headed _ (omega arith)
+returns c = headed _ _ _ (search needs) (omega arith)
 
 pub is-headed-spec : {M : Type 1} → statement M
 is-headed-spec =
     tie.close
     (tie.spec
+    fifth-word-requires
     shared-slice-read-result
     shared-slice-read-result-2
     shared-slice-read-result-3

@@ -8,8 +8,8 @@ use Rattle.packets.proofs.form.judge.Tie as tie
 returns : tie.Need-returns
 returns c = search wrong-size
 
-is-unknown-requires : tie.Need-is-unknown-requires
-is-unknown-requires c κs = search needs
+is-uncounted-requires : tie.Need-is-uncounted-requires
+is-uncounted-requires c κs = search needs
 
 returns-2 : tie.Need-returns-2
 returns-2 c = search no-mode
@@ -73,7 +73,7 @@ judge-spec =
     tie.close
     (tie.spec
     returns
-    is-unknown-requires
+    is-uncounted-requires
     returns-2
     has-high-word-requires
     returns-3

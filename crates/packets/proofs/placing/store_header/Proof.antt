@@ -3,19 +3,24 @@
 use mathlib.Core.Path.{_≡_, _∙_}
 use Prim.Native.Nat.{ℕ}
 use native.Mathlib.Omega.{arith}
-use mathlib.Core.List.{List, []}
+use mathlib.Core.List.{List, [], _∷_}
 use lib.ListN.{length, drop, length-set, drop-of-length-le}
 use lib.Seq.{sets, sets-eq}
 use borrow.Author.Needs.{needs}
-use Rattle.packets.specs.Packet.{header}
+use Rattle.packets.specs.Packet.{fifthWord, header}
 use Rattle.packets.proofs.placing.store_header.Statement.{statement}
 use Rattle.packets.proofs.placing.store_header.Tie as tie
 
-filled : (run : List ℕ) → length run ≡ 6 → sets run 0 header ≡ header
+filled :
+    (mode fifth : ℕ) (run : List ℕ) → length run ≡ 6 → fifth ≡ fifthWord mode
+    → sets run 0 (0x000 ∷ 0x3FF ∷ 0x3FF ∷ 0x260 ∷ fifth ∷ 0x110 ∷ []) ≡ header mode
 unfolding header
-filled run six =
+filled mode fifth run six told =
     let none : drop 6 run ≡ [] = drop-of-length-le run {i = 6} (omega arith) in
-    sets-eq header run 0 (omega arith) ∙ rw none
+    rw told (sets-eq (header mode) run 0 (omega arith) ∙ rw none)
+
+fifth-word-requires : tie.Need-fifth-word-requires
+fifth-word-requires c κs = search needs
 
 slice-write-run : tie.Need-slice-write-run
 slice-write-run c = search needs
@@ -46,6 +51,7 @@ pub store-header-spec : {M : Type 1} → statement M
 store-header-spec =
     tie.close
     (tie.spec
+    fifth-word-requires
     slice-write-run
     slice-write-run-2
     slice-write-run-3
