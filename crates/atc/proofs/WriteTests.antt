@@ -15,7 +15,6 @@ use Rattle.runs.specs.declared.types.Written.the-variants.{Refused as Unwritten
 use Rattle.runs.specs.Run.{writtenBy, runAfter, roomRefusals}
 use Rattle.runs.proofs.Written.{turned-away}
 use Rattle.record.specs.declared.types.Record.{Record}
-use Rattle.record.specs.declared.types.Packed.{Packed}
 use Rattle.record.specs.declared.types.Packed.the-variants.{Bits, Refused as Unpackable}
 use Rattle.modes.specs.Modes.{uncounted, withCounting}
 use Rattle.modes.proofs.Told.{refused-by-rows, made-by-rows}

@@ -22,7 +22,7 @@ use Rattle.modes.specs.declared.types.Shows.the-variants.{First, ByMark}
 use Rattle.modes.specs.Modes.{rateAt, picturesAt, highRate, withCounting}
 use Rattle.modes.specs.Calls.{recordIn, informationIn}
 use Rattle.modes.specs.Shown.{shownRecord, unshown}
-use Rattle.superframes.specs.SubFrames.{placeIn, otherSet, flagSet, gathered, spread}
+use Rattle.superframes.specs.SubFrames.{placeIn, otherSet, flagBesidesDrop, gathered, spread}
 
 -- A4: types 1 and 2 show the picture that the mark says; "type 0 keeps the mark unread" and shows the first
 abbrev pub showsBy : ℕ → Shows
@@ -51,7 +51,7 @@ infoFor mode r = cond (highRate mode) (infoOf (rateAt mode) (spread (picturesAt 
 abbrev pub recordRefusalsFor : ℕ → Record → List Refusal
 recordRefusalsFor mode r =
     refusalsBesides (placeOutside (picturesAt mode) (r .place) || groupAbove15 (r .groups))
-    (cond (highRate mode) (flagSet (r .flags)) (placeUnused (picturesAt mode) (r .place) || unusedColour (rateAt mode) (r .flags .colour)))
+    (cond (highRate mode) (flagBesidesDrop (r .flags)) (placeUnused (picturesAt mode) (r .place) || unusedColour (rateAt mode) (r .flags .colour)))
     (rateAt mode) (r .flags .drop) (r .address)
 
 abbrev pub carriedRefusals : ℕ → ℕ → Record → List Refusal

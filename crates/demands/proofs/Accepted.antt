@@ -31,7 +31,7 @@ use Rattle.record.specs.Record.{groupAbove15}
 use Rattle.modes.specs.Calls.{writeRefusalsIn}
 use Rattle.modes.specs.Modes.{unknown, uncounted, highRate, rateAt, picturesAt, withMode, withCounting}
 use Rattle.modes.proofs.EachMode.{some-picture, several-share, high-exactly, low-known}
-use Rattle.superframes.specs.SubFrames.{flagSet}
+use Rattle.superframes.specs.SubFrames.{flagBesidesDrop}
 use Rattle.ltc.proofs.Evened.{is-no}
 use Rattle.atc.specs.Records.{recordRefusalsFor}
 use Rattle.demands.specs.Modes.{CountingMode, at24, at25, at30, at30drop, at48, at50, at60, at60drop, at72, at96, at100, at24x5, at30x4, at30x4drop}
@@ -136,7 +136,7 @@ colour-unused (suc (suc (suc (suc (suc zero))))) colour low colourless = refl
 colour-unused (suc (suc (suc (suc (suc (suc mode)))))) colour low colourless = absurd (omega arith)
 
 -- no flag but drop is set
-pub drop-alone : (f : Flags) → (flagSet f ≡ false) ↔ DropAlone f
+pub drop-alone : (f : Flags) → (flagBesidesDrop f ≡ false) ↔ DropAlone f
 drop-alone f = (
   λ e.
       (let colour = neither (isYes (f .colour)) _ e in
@@ -179,10 +179,10 @@ module _ (mode : ℕ) (r : Record) where
     colourless : (mode ≡ 0) ⊎ (mode ≡ 3) → r .flags .colour ≡ No
     plain : 6 ≤ mode → DropAlone (r .flags)
 
-  used : mode ≤ 10 → cond (highRate mode) (flagSet (r .flags)) unused ≡ false → Used
+  used : mode ≤ 10 → cond (highRate mode) (flagBesidesDrop (r .flags)) unused ≡ false → Used
   used few e = go (highRate mode) refl e
     where
-      go : (t : Bool) → highRate mode ≡ t → cond t (flagSet (r .flags)) unused ≡ false → Used
+      go : (t : Bool) → highRate mode ≡ t → cond t (flagBesidesDrop (r .flags)) unused ≡ false → Used
       go true t e =
           let within = high-exactly mode .0 t in
           let several = several-share mode (omega arith) in
@@ -200,10 +200,10 @@ module _ (mode : ℕ) (r : Record) where
             plain = λ high. absurd (omega arith);
           }
 
-  unused-not : placeUnused (picturesAt mode) (r .place) ≡ false → Acceptable mode r → cond (highRate mode) (flagSet (r .flags)) unused ≡ false
+  unused-not : placeUnused (picturesAt mode) (r .place) ≡ false → Acceptable mode r → cond (highRate mode) (flagBesidesDrop (r .flags)) unused ≡ false
   unused-not place ok = go (highRate mode) refl
     where
-      go : (t : Bool) → highRate mode ≡ t → cond t (flagSet (r .flags)) unused ≡ false
+      go : (t : Bool) → highRate mode ≡ t → cond t (flagBesidesDrop (r .flags)) unused ≡ false
       go true t = drop-alone (r .flags) .1 (ok .plain (high-exactly mode .0 t .0))
       go false t =
           let low = low-exactly mode (counted-exactly mode .0 (known (ok .counts))) .0 t in
@@ -214,7 +214,7 @@ module _ (mode : ℕ) (r : Record) where
       let eight =
       neither (placeOutside (picturesAt mode) (r .place) || groupAbove15 (r .groups)) (outside fps (r .address)) (clear-at outside-the-clock rows clear) in
       let bad = neither (placeOutside (picturesAt mode) (r .place)) (groupAbove15 (r .groups)) (eight .0) in
-      let ten = neither (cond (highRate mode) (flagSet (r .flags)) unused) (dropped && not (mayDrop rate)) (clear-at unused-bit-set rows clear) in
+      let ten = neither (cond (highRate mode) (flagBesidesDrop (r .flags)) unused) (dropped && not (mayDrop rate)) (clear-at unused-bit-set rows clear) in
       let is-used = used (counted-exactly mode .0 (clear-at unknown-mode rows clear)) (ten .0) in
       let stands : Clear (pictureRefusals rate (picturesAt mode) (r .flags .drop) own) =
       (rw (bad .0) (eight .1), (clear-at skipped-address rows clear, (rw (is-used .place) (ten .1), tt))) in

@@ -1,16 +1,16 @@
 -- Document 02, A6: "LTC and VITC refuse them by 2, and 2 begins above 10 elsewhere": exactly where a mode is refused by 2. Shut out: another bound, another number than 2, 2 given
 -- before 1.
 -- Assumes nothing.
-use Prim.Native.Nat.{ℕ, _≤_}
-use mathlib.Core.Path.{_≡_, refl}
-use mathlib.Core.Bool.{true, false, not}
+use Prim.Native.Nat.{ℕ, suc, _≤_}
+use mathlib.Core.Path.{_≡_, refl, sym, ap, _∙_}
+use mathlib.Core.Bool.{Bool, true, false, not, true≢false}
 use mathlib.Core.List.{List}
-use mathlib.Core.Logic.{_↔_}
+use mathlib.Core.Logic.{_↔_, _⊎_, inl, inr, ⊎-elim}
 use native.Mathlib.Omega.{arith}
-use lib.Dec.{eqb}
+use lib.Dec.{leb, eqb}
 use lib.IntN.{ℤ}
 use lib.ListN.{length}
-use borrow.Author.Tests.{leb-true, le-leb, eqb-true, eq-eqb, not-false}
+use borrow.Author.Tests.{leb-true, leb-false, le-leb, eqb-true, eq-eqb, not-false}
 use Rattle.refusals.specs.Table.{unknown-mode, theOrder}
 use Rattle.refusals.specs.Answer.{Refusal, answer, inOrder}
 use Rattle.refusals.proofs.First.{given-exactly}
@@ -34,7 +34,16 @@ use Rattle.pictures.specs.Calls.{pictureRefusals, twoRefusals, numberRefusals}
 use Rattle.record.specs.declared.types.Record.{Record}
 use Rattle.record.specs.declared.types.Unpacked.{Unpacked}
 use Rattle.record.specs.declared.types.Unpacked.the-variants.{Holds, Refused as Unheld}
-use Rattle.modes.specs.Modes.{unknown, uncounted, rateAt, picturesAt, withCounting}
+use Rattle.record.specs.declared.types.Packed.{Packed}
+use Rattle.record.specs.declared.types.Packed.the-variants.{Bits, Refused as Unpackable}
+use Rattle.modes.specs.Modes.{unknown, uncounted, highRate, rateAt, picturesAt, withCounting}
+use Rattle.modes.proofs.EachMode.{high-exactly}
+use Rattle.superframes.specs.Calls as superframes
+use Rattle.superframes.proofs.Rows as high
+use Rattle.register.specs.declared.types.Reader.{Reader}
+use Rattle.hearing.specs.declared.types.Heard.the-variants.{Refused as Unheard}
+use Rattle.reader.specs.Steps.{after, steppedOf}
+use Rattle.reader.specs.Blocks.{stopped, blockedOf}
 use Rattle.modes.specs.Calls.{numberIn, inSecondIn, pictureIn, fieldsIn, spanIn, plusIn}
 use Rattle.modes.proofs.Rows as counts
 use Rattle.polarity.specs.declared.types.Word.{Word}
@@ -50,27 +59,31 @@ use Rattle.atc.proofs.Answers as ancillary
 use Rattle.trips.proofs.Nineteen.{ofPacket, ofWritten}
 
 -- the number that each kind of answer is refused with, and 0 where it is not
-ofNumbered : Numbered → ℕ
+abbrev pub ofNumbered : Numbered → ℕ
 ofNumbered (Number n) = 0
 ofNumbered (Unnumbered n) = n
 
-ofInSecond : InSecond → ℕ
+abbrev pub ofInSecond : InSecond → ℕ
 ofInSecond (Counted n) = 0
 ofInSecond (Uncounted n) = n
 
-ofPictured : Pictured → ℕ
+abbrev pub ofPictured : Pictured → ℕ
 ofPictured (At p) = 0
 ofPictured (Unpictured n) = n
 
-ofSpan : Span → ℕ
+abbrev pub ofSpan : Span → ℕ
 ofSpan (Frames z) = 0
 ofSpan (Unmeasured n) = n
 
-ofWord : Word → ℕ
+abbrev pub ofWord : Word → ℕ
 ofWord (Read r found) = 0
 ofWord (Unread n) = n
 
-ofUnpacked : Unpacked → ℕ
+abbrev pub ofPacked : Packed → ℕ
+ofPacked (Bits n) = 0
+ofPacked (Unpackable n) = n
+
+abbrev pub ofUnpacked : Unpacked → ℕ
 ofUnpacked (Holds r) = 0
 ofUnpacked (Unheld n) = n
 
@@ -118,74 +131,113 @@ module _ (mode : ℕ) (drop : Flag) where
   abbrev rows : Picture → List Refusal
   rows p = pictureRefusals rate (picturesAt mode) drop p
 
-  pub number-refused-by-2 : (p : Picture) → (numberIn mode drop p ≡ Unnumbered unknown-mode) ↔ (11 ≤ mode)
-  unfolding ofNumbered
+  pub number-refused-by-2 : (p : Picture) → (numberIn mode drop p ≡ Unnumbered 2) ↔ (11 ≤ mode)
   number-refused-by-2 p =
       rw (counts.number-rows mode drop p)
       (two-first Unnumbered (Number (record { 0 = number p })) ofNumbered (λ k. refl) refl mode (rows p) (counts.picture-rows-in-order mode drop p))
 
-  pub in-second-refused-by-2 : (p : Picture) → (inSecondIn mode drop p ≡ Uncounted unknown-mode) ↔ (11 ≤ mode)
-  unfolding ofInSecond
+  pub in-second-refused-by-2 : (p : Picture) → (inSecondIn mode drop p ≡ Uncounted 2) ↔ (11 ≤ mode)
   in-second-refused-by-2 p =
       rw (counts.in-second-rows mode drop p)
       (two-first Uncounted (Counted (record { 0 = numberInSecond (picturesAt mode) p })) ofInSecond (λ k. refl) refl mode (rows p)
       (counts.picture-rows-in-order mode drop p))
 
-  pub picture-refused-by-2 : (n : DayFrame) → (pictureIn mode drop n ≡ Unpictured unknown-mode) ↔ (11 ≤ mode)
-  unfolding ofPictured
+  pub picture-refused-by-2 : (n : DayFrame) → (pictureIn mode drop n ≡ Unpictured 2) ↔ (11 ≤ mode)
   picture-refused-by-2 n =
       rw (counts.picture-rows mode drop n)
       (two-first Unpictured (At (numbered (n .0))) ofPictured (λ k. refl) refl mode (numberRefusals rate (picturesAt mode) drop (n .0))
       (counts.number-rows-in-order mode drop (n .0)))
 
-  pub fields-refused-by-2 : (p : Picture) → (fieldsIn mode drop p ≡ Unpictured unknown-mode) ↔ (11 ≤ mode)
-  unfolding ofPictured
+  pub fields-refused-by-2 : (p : Picture) → (fieldsIn mode drop p ≡ Unpictured 2) ↔ (11 ≤ mode)
   fields-refused-by-2 p =
       rw (counts.fields-rows mode drop p) (two-first Unpictured (At p) ofPictured (λ k. refl) refl mode (rows p) (counts.picture-rows-in-order mode drop p))
 
-  pub span-refused-by-2 : (from to : Picture) → (spanIn mode drop from to ≡ Unmeasured unknown-mode) ↔ (11 ≤ mode)
-  unfolding ofSpan
+  pub span-refused-by-2 : (from to : Picture) → (spanIn mode drop from to ≡ Unmeasured 2) ↔ (11 ≤ mode)
   span-refused-by-2 from to =
       rw (counts.span-rows mode drop from to)
       (two-first Unmeasured (Frames (distanceOf day (number from) (number to))) ofSpan (λ k. refl) refl mode (twoRefusals rate (picturesAt mode) drop from to)
       (counts.two-rows-in-order mode drop from to))
 
-  pub plus-refused-by-2 : (p : Picture) (z : ℤ) → (plusIn mode drop p z ≡ Unpictured unknown-mode) ↔ (11 ≤ mode)
-  unfolding ofPictured
+  pub plus-refused-by-2 : (p : Picture) (z : ℤ) → (plusIn mode drop p z ≡ Unpictured 2) ↔ (11 ≤ mode)
   plus-refused-by-2 p z =
       rw (counts.plus-rows mode drop p z)
       (two-first Unpictured (At (numbered (sumOf day (number p) z))) ofPictured (λ k. refl) refl mode (rows p) (counts.picture-rows-in-order mode drop p))
 
 -- words, lines and packets, written and read
 module _ (mode : ℕ) (r : Record) (start : ℕ) (run : List ℕ) where
-  pub linear-written-refused-by-2 : (ltc.writtenOf mode r start run ≡ Unwritten unknown-mode) ↔ (6 ≤ mode)
+  pub linear-written-refused-by-2 : (ltc.writtenOf mode r start run ≡ Unwritten 2) ↔ (6 ≤ mode)
   unfolding ltc.writtenOf ltc.writtenRows
   linear-written-refused-by-2 =
       first-of (given-exactly Unwritten Done ofWritten (λ k. refl) refl unknown-mode (omega arith) (ltc.writtenRows mode r start run) (linear.written-rows-in-order mode r start run)) (unknown-from mode)
 
-  pub interval-written-refused-by-2 : (vitc.writtenOf mode r start run ≡ Unwritten unknown-mode) ↔ (6 ≤ mode)
+  pub interval-written-refused-by-2 : (vitc.writtenOf mode r start run ≡ Unwritten 2) ↔ (6 ≤ mode)
   unfolding vitc.writtenOf
   interval-written-refused-by-2 =
       first-of (given-exactly Unwritten Done ofWritten (λ k. refl) refl unknown-mode (omega arith) (vitc.writtenRows mode r start run) (interval.written-rows-in-order mode r start run)) (unknown-from mode)
 
   pub ancillary-written-refused-by-2 :
-      (interface : Interface) (type second : ℕ) → (atc.writtenOf mode interface r type second start run ≡ Unwritten unknown-mode) ↔ (11 ≤ mode)
+      (interface : Interface) (type second : ℕ) → (atc.writtenOf mode interface r type second start run ≡ Unwritten 2) ↔ (11 ≤ mode)
   unfolding atc.writtenOf
   ancillary-written-refused-by-2 interface type second =
       first-of (given-exactly Unwritten Done ofWritten (λ k. refl) refl unknown-mode (omega arith) (atc.writtenRows mode interface r type second start run) (ancillary.written-rows-in-order mode interface r type second start run)) (uncounted-from mode)
 
 module _ (mode : ℕ) (elements : List ℕ) where
-  pub linear-refused-by-2 : (ltc.readOf mode elements ≡ Unread unknown-mode) ↔ ((length elements ≡ 80) × (6 ≤ mode))
-  unfolding ltc.readOf ofWord
+  pub linear-refused-by-2 : (ltc.readOf mode elements ≡ Unread 2) ↔ ((length elements ≡ 80) × (6 ≤ mode))
+  unfolding ltc.readOf
   linear-refused-by-2 =
       after-length elements 80 (given-exactly Unread _ ofWord (λ k. refl) refl unknown-mode (omega arith) (ltc.readRefusals mode elements) (linear.read-rows-in-order mode elements)) (unknown-from mode)
 
-  pub interval-refused-by-2 : (vitc.readOf mode elements ≡ Unheld unknown-mode) ↔ ((length elements ≡ 90) × (6 ≤ mode))
-  unfolding vitc.readOf ofUnpacked
+  pub interval-refused-by-2 : (vitc.readOf mode elements ≡ Unheld 2) ↔ ((length elements ≡ 90) × (6 ≤ mode))
+  unfolding vitc.readOf
   interval-refused-by-2 =
       after-length elements 90 (given-exactly Unheld _ ofUnpacked (λ k. refl) refl unknown-mode (omega arith) (vitc.readRefusals mode elements) (interval.read-rows-in-order mode elements)) (unknown-from mode)
 
-  pub ancillary-refused-by-2 : (interface : Interface) → (atc.readOf mode interface elements ≡ Turned unknown-mode) ↔ ((length elements ≡ 23) × (11 ≤ mode))
+  pub ancillary-refused-by-2 : (interface : Interface) → (atc.readOf mode interface elements ≡ Turned 2) ↔ ((length elements ≡ 23) × (11 ≤ mode))
   unfolding atc.readOf
   ancillary-refused-by-2 interface =
       after-length elements 23 (given-exactly Turned _ ofPacket (λ k. refl) refl unknown-mode (omega arith) (atc.readRefusals mode interface elements) (ancillary.read-rows-in-order mode interface elements)) (uncounted-from mode)
+
+-- the calls of the record on the lines, and those of high frame rates, which are of modes 6 to 10 alone
+module _ (mode : ℕ) where
+  not-high : (not (highRate mode) ≡ true) ↔ ((mode ≤ 5) ⊎ (11 ≤ mode))
+  not-high = (
+    λ e. ⊎-elim inl (λ more. ⊎-elim (λ few. absurd (true≢false (sym e ∙ ap not (high-exactly mode .1 (more, few))))) inr (split mode 10)) (split-5 mode),
+    λ out. go (highRate mode) refl out,
+  )
+    where
+      split : (m k : ℕ) → (m ≤ k) ⊎ (suc k ≤ m)
+      split m k = side (leb m k) refl
+        where
+          side : (t : Bool) → leb m k ≡ t → (m ≤ k) ⊎ (suc k ≤ m)
+          side true t = inl (leb-true m k t)
+          side false t = let more = leb-false m k t in inr (omega arith)
+
+      split-5 : (m : ℕ) → (m ≤ 5) ⊎ (6 ≤ m)
+      split-5 m = split m 5
+
+      go : (t : Bool) → highRate mode ≡ t → (mode ≤ 5) ⊎ (11 ≤ mode) → not t ≡ true
+      go true t (inl low) = let within = high-exactly mode .0 t in absurd (omega arith)
+      go true t (inr high) = let within = high-exactly mode .0 t in absurd (omega arith)
+      go false t out = refl
+
+  pub super-frame-refused-by-2 : (info : ℕ) → (superframes.unpackedIn mode info ≡ Unheld 2) ↔ ((mode ≤ 5) ⊎ (11 ≤ mode))
+  unfolding superframes.unpackedIn
+  super-frame-refused-by-2 info =
+      first-of (given-exactly Unheld _ ofUnpacked (λ k. refl) refl unknown-mode (omega arith)
+      (superframes.withHighRate mode (superframes.bitsRefusals (rateAt mode) (picturesAt mode) info)) (high.bits-rows-in-order mode info)) not-high
+
+  pub super-frame-made-refused-by-2 : (r : Record) → (superframes.packedIn mode r ≡ Unpackable 2) ↔ ((mode ≤ 5) ⊎ (11 ≤ mode))
+  unfolding superframes.packedIn
+  super-frame-made-refused-by-2 r =
+      first-of (given-exactly Unpackable _ ofPacked (λ k. refl) refl unknown-mode (omega arith)
+      (superframes.withHighRate mode (superframes.writeRefusals (rateAt mode) (picturesAt mode) r)) (high.write-rows-in-order mode r)) not-high
+
+-- a reader in such a mode answers 2 to every step and block, and stays as it was: "it is LTC"
+module _ (reader : Reader) (high : 6 ≤ reader .mode) where
+  pub step-refused-by-2 : (element : ℕ) → steppedOf reader element ≡ after reader (Unheard 2)
+  unfolding steppedOf
+  step-refused-by-2 element = rw (unknown-from (reader .mode) .1 high)
+
+  pub block-refused-by-2 : (limit : ℕ) (run : List ℕ) → blockedOf reader limit run ≡ stopped (Unheard 2) reader 0
+  unfolding blockedOf
+  block-refused-by-2 limit run = rw (unknown-from (reader .mode) .1 high)

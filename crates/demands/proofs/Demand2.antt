@@ -11,9 +11,7 @@ use mathlib.Core.List.{List}
 use mathlib.Core.Logic.{_↔_, _⊎_}
 use native.Mathlib.Omega.{arith}
 use lib.ListN.{length, take, drop}
-use Rattle.refusals.specs.Table.{unknown-mode, wrong-check}
-use Rattle.refusals.proofs.Answered.{Clear}
-use Rattle.refusals.proofs.ByNumber.{clear-at}
+use Rattle.refusals.specs.Table.{wrong-check}
 use Rattle.bits.specs.Bits.{someAbove}
 use Rattle.runs.specs.declared.types.Written.the-variants.{Refused as Unwritten}
 use Rattle.runs.specs.Run.{placed}
@@ -34,7 +32,7 @@ use Rattle.record.specs.declared.types.Record.{Record}
 use Rattle.midnight.specs.Steps.{shown}
 use Rattle.rates.specs.Rates.{isYes, framesInSecond, mayDrop}
 use Rattle.record.specs.Record.{marked}
-use Rattle.modes.specs.Modes.{unknown, uncounted, highRate, rateAt, picturesAt}
+use Rattle.modes.specs.Modes.{unknown, rateAt, picturesAt}
 use Rattle.modes.specs.Calls.{numberIn, pictureIn, informationIn}
 use Rattle.modes.proofs.EachMode.{some-picture}
 use Rattle.modes.proofs.Counted.{number-by-row, picture-by-row}
@@ -50,7 +48,6 @@ use Rattle.trips.proofs.Words as ltc
 use Rattle.vitc.specs.Calls.{lineOf}
 use Rattle.trips.proofs.Lines as vitc
 use Rattle.packets.specs.Packet.{typeIn, secondIn}
-use Rattle.packets.specs.Calls.{formRefusals}
 use Rattle.atc.specs.declared.types.Interface.{Interface}
 use Rattle.atc.specs.declared.types.Packet.the-variants.{Refused as Turned}
 use Rattle.atc.specs.declared.types.Interface.the-variants.{HighDefinition}
@@ -61,6 +58,7 @@ use Rattle.demands.specs.Modes.{CountingMode}
 use Rattle.demands.specs.Records.{Acceptable, OnLines, MarkSays}
 use Rattle.demands.specs.Table4.{ClaimsImpossibleLine}
 use Rattle.demands.specs.Families.{PayloadType, Names}
+use Rattle.demands.specs.Form.{Form}
 use Rattle.demands.specs.Carriers.{Carrier, linear, withBit, bitFor, FoundAsMade, interval, ancillary, only, Accepting, Reading, Matches}
 use Rattle.demands.proofs.Demand1.{linear-room, interval-room, ancillary-room}
 use Rattle.demands.proofs.Accepted.{known, counted-exactly, low-exactly, allowed, on-lines-exactly}
@@ -68,6 +66,7 @@ use Rattle.demands.proofs.Pictures.{mark-says-exactly}
 use Rattle.demands.proofs.LineNumbers.{impossible-exactly, possible}
 use Rattle.demands.proofs.Families.{type-exactly, misnamed-exactly}
 use Rattle.demands.proofs.Packets.{packet-exactly}
+use Rattle.demands.proofs.Numbers.{with-front, form-exactly}
 
 -- For every N above 0 and every rate: n pictures after midnight show the address that the clock shows n / N steps after midnight, and the place n % N. Shut out: places
 -- counted down.
@@ -324,45 +323,41 @@ as-claimed exactly claimed = (
 both-exactly : {A B C D : Type 0} → A ↔ C → B ↔ D → (A × B) ↔ (C × D)
 both-exactly first second = (λ both. (first .0 (both .0), second .0 (both .1)), λ both. (first .1 (both .0), second .1 (both .1)))
 
--- words that have the form of a packet are in a mode that is counted
-form-counted : (mode : ℕ) (words : List ℕ) → Clear (formRefusals mode words) → mode ≤ 10
-form-counted mode words clear = counted-exactly mode .0 (clear-at unknown-mode (formRefusals mode words) clear)
-
 -- Document 02, A9: "For types 1 and 2 on 525 or 625 line interfaces, refuse by a new number 19 any second byte whose low six bits have no entry in Table 4": of words
 -- that have the form of a packet in modes 0 to 5 exactly then, whatever record they carry ("It is checked after 7"), and so of a write. Shut out: type 0 or
 -- high definition checked; 8 given where 19 applies too; another table.
 pub ancillary-refused-by-19 :
     (interface : Interface) (mode : ℕ) (words : List ℕ)
     → (packetRead mode interface words ≡ Turned 19)
-    ↔ (Clear (formRefusals mode words) × ((mode ≤ 5) × ClaimsImpossibleLine interface (typeIn words) (secondIn words)))
+    ↔ (Form mode words × ((mode ≤ 5) × ClaimsImpossibleLine interface (typeIn words) (secondIn words)))
 ancillary-refused-by-19 interface mode words =
-    as-claimed (read-refused-by-19 mode interface words)
-    (λ form. both-exactly (low-exactly mode (form-counted mode words form)) (impossible-exactly interface (typeIn words) (secondIn words)))
+    as-claimed (with-front (read-refused-by-19 mode interface words) (form-exactly mode words))
+    (λ form. both-exactly (low-exactly mode (form .counted)) (impossible-exactly interface (typeIn words) (secondIn words)))
 
 pub ancillary-written-refused-by-19 :
     (interface : Interface) (mode : ℕ) (r : Record) (type second start : ℕ) (run : List ℕ)
-    → (writtenOf mode interface r type second start run ≡ Unwritten 19) ↔ ((uncounted mode ≡ false) × ((mode ≤ 5) × ClaimsImpossibleLine interface type second))
+    → (writtenOf mode interface r type second start run ≡ Unwritten 19) ↔ ((mode ≤ 10) × ((mode ≤ 5) × ClaimsImpossibleLine interface type second))
 ancillary-written-refused-by-19 interface mode r type second start run =
-    as-claimed (written-refused-by-19 mode interface r type second start run)
-    (λ counted. both-exactly (low-exactly mode (counted-exactly mode .0 counted)) (impossible-exactly interface type second))
+    as-claimed (with-front (written-refused-by-19 mode interface r type second start run) (counted-exactly mode))
+    (λ few. both-exactly (low-exactly mode few) (impossible-exactly interface type second))
 
 -- Document 02, A6: "A second byte that doesn't name the mode given is refused by 23, straight after 7": of words that have the form of a packet and a type of the mode's family
 -- exactly then, whatever record they carry, and so of a write. Shut out: the second byte unchecked; 8 given where 23 applies too; another coding of the byte.
 pub ancillary-refused-by-23 :
     (interface : Interface) (mode : ℕ) (words : List ℕ)
     → (packetRead mode interface words ≡ Turned 23)
-    ↔ (Clear (formRefusals mode words) × (PayloadType mode (typeIn words) × ((6 ≤ mode) × (Names mode (secondIn words) → ⊥))))
+    ↔ (Form mode words × (PayloadType mode (typeIn words) × ((6 ≤ mode) × (Names mode (secondIn words) → ⊥))))
 ancillary-refused-by-23 interface mode words =
-    as-claimed (read-refused-by-23 mode interface words)
-    (λ form. (let few = form-counted mode words form in both-exactly (type-exactly mode few (typeIn words)) (misnamed-exactly mode few (secondIn words))))
+    as-claimed (with-front (read-refused-by-23 mode interface words) (form-exactly mode words))
+    (λ form. (let few = form .counted in both-exactly (type-exactly mode few (typeIn words)) (misnamed-exactly mode few (secondIn words))))
 
 pub ancillary-written-refused-by-23 :
     (interface : Interface) (mode : ℕ) (r : Record) (type second start : ℕ) (run : List ℕ)
     → (writtenOf mode interface r type second start run ≡ Unwritten 23)
-    ↔ ((uncounted mode ≡ false) × (PayloadType mode type × ((6 ≤ mode) × (Names mode second → ⊥))))
+    ↔ ((mode ≤ 10) × (PayloadType mode type × ((6 ≤ mode) × (Names mode second → ⊥))))
 ancillary-written-refused-by-23 interface mode r type second start run =
-    as-claimed (written-refused-by-23 mode interface r type second start run)
-    (λ counted. (let few = counted-exactly mode .0 counted in both-exactly (type-exactly mode few type) (misnamed-exactly mode few second)))
+    as-claimed (with-front (written-refused-by-23 mode interface r type second start run) (counted-exactly mode))
+    (λ few. both-exactly (type-exactly mode few type) (misnamed-exactly mode few second))
 
 -- And nothing else depends on the interface: where no such line is claimed, a read and a write are what they are in high definition, which "skips the check". Shut
 -- out: another refusal, another record or other words on one interface than on another.

@@ -3,7 +3,7 @@
 use Prim.Native.Nat.{ℕ, zero, suc, _+_, _*_, _/_, _%_, _^_, _≤_}
 use mathlib.Core.Path.{_≡_, refl, sym, ap, _∙_}
 use mathlib.Core.Bool.{Bool, true, false, not, _&&_, _||_, cond, true≢false}
-use mathlib.Core.Logic.{_↔_, _⊎_, inl, inr, ⊎-elim}
+use mathlib.Core.Logic.{_↔_}
 use native.Mathlib.Omega.{arith}
 use lib.Dec.{ltb, eqb}
 use borrow.Author.Tests.{ltb-true, ltb-false, le-ltb, eqb-true, eq-eqb, ne-eqb, not-false}
@@ -12,8 +12,6 @@ use Rattle.refusals.specs.Table.{unknown-type, impossible-line, misnamed-mode}
 use Rattle.refusals.proofs.Answered.{Clear, neither}
 use Rattle.refusals.proofs.ByNumber.{clear-at}
 use Rattle.rates.specs.Rates.{isYes, framesInSecond}
-use Rattle.rates.specs.declared.types.Flag.{Flag}
-use Rattle.rates.specs.declared.types.Flag.the-variants.{No, Yes}
 use Rattle.layout.specs.Flags.{flagOf, bitOf}
 use Rattle.record.specs.Record.{recordOf}
 use Rattle.modes.specs.Modes.{highRate, rateAt, picturesAt}
@@ -24,10 +22,9 @@ use Rattle.superframes.specs.Named.{misnamed, nameOf}
 use Rattle.trips.proofs.Records.{bit-of-flag}
 use Rattle.packets.specs.Packet.{header, unknownType}
 use Rattle.atc.specs.declared.types.Interface.{Interface}
-use Rattle.atc.specs.Lines.{impossibleLine}
 use Rattle.atc.specs.Calls.{payloadRefusals}
 use Rattle.demands.specs.Table4.{ClaimsImpossibleLine}
-use Rattle.demands.specs.Families.{PayloadType, opening, SuperFrame, 72-as, 96-as, 100-as, 120-as-24, 120-as-30, Names, 72-frames, 96-frames, 100-frames, 24-by-5, 30-by-4, NamesMode, column, bitAt, saidAt, AllZero}
+use Rattle.demands.specs.Families.{PayloadType, opening, SuperFrame, 72-as, 96-as, 100-as, 120-as-24, 120-as-30, Names, 72-frames, 96-frames, 100-frames, 24-by-5, 30-by-4, NamesMode, column, saidAt, AllZero}
 use Rattle.demands.proofs.Accepted.{low-exactly}
 use Rattle.demands.proofs.LineNumbers.{impossible-exactly, possible}
 

@@ -12,7 +12,8 @@
 -- Packets   what a packet can hold, in the requests' words
 -- HighRates where a picture's place stands in modes 6 to 10, and the words that a packet opens with
 -- Bounds    where a mode is refused by 2, exactly
--- Given     where a packet is refused by 4, 7 and 12, exactly
+-- Counting  where the calls that count give 8, 9, 10 and 14, exactly, and that they answer alike
+-- Numbers   where a packet is refused by 1, 3 to 7 and 12, exactly
 -- Tests     what the tests for 8, 9 and 10 of a packet say, in the documents' words
 -- Refused   where a packet is refused by 8, 9 and 10, exactly
 -- LineNumbers the line numbers that a packet may not claim are those that the printed table has no entry for
@@ -31,6 +32,7 @@ pub mod Families
 pub mod Packets
 pub mod HighRates
 pub mod Bounds
-pub mod Given
+pub mod Numbers
 pub mod Refused
 pub mod Tests
+pub mod Counting

@@ -2,10 +2,9 @@
 -- Assumes nothing.
 use Prim.Native.Nat.{ℕ}
 use mathlib.Core.Logic.{_↔_}
-use Rattle.refusals.specs.Table.{unknown-mode, outside-the-clock, mark-set}
+use Rattle.refusals.specs.Table.{mark-set}
 use Rattle.refusals.specs.Answer.{Refusal}
-use Rattle.refusals.proofs.Answered.{Clear}
-use Rattle.refusals.proofs.ByNumber.{clear-at, clear-from, clear-before, clear-whole}
+use Rattle.refusals.proofs.ByNumber.{clear-at, clear-before, clear-whole}
 use mathlib.Core.List.{List}
 use Rattle.modes.specs.Modes.{withCounting}
 use Rattle.atc.specs.declared.types.Interface.{Interface}

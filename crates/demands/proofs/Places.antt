@@ -8,7 +8,7 @@ use mathlib.Core.Logic.{_↔_}
 use native.Mathlib.Omega.{arith}
 use lib.Dec.{ltb}
 use borrow.Author.Tests.{lt-ltb, le-leb}
-use Rattle.refusals.specs.Table.{unknown-mode, outside-the-clock, skipped-address, unused-bit-set, mark-set}
+use Rattle.refusals.specs.Table.{unknown-mode, outside-the-clock, skipped-address}
 use Rattle.refusals.proofs.Answered.{neither, accepted-as}
 use Rattle.refusals.proofs.ByNumber.{clear-at}
 use Rattle.rates.specs.declared.types.Flag.{Flag}
@@ -50,7 +50,7 @@ use Rattle.demands.proofs.Families.{payload-exactly}
 -- out: 8 given for it, or the place unread.
 pub place-refused-by-10 :
     (mode : ℕ) (shows : Shows) (r : Record) (n : ℕ) → mode < 3 → carriedIn mode shows (atPlace 0 r) ≡ Bits n → (FirstPicture r → ⊥)
-    → carriedIn mode shows r ≡ Unpackable unused-bit-set
+    → carriedIn mode shows r ≡ Unpackable 10
 unfolding carriedIn
 place-refused-by-10 mode shows r n few stands other =
     let rows = carriedRows mode (atPlace 0 r) shows in
@@ -63,12 +63,12 @@ place-refused-by-10 mode shows r n few stands other =
 -- In modes 3 to 5 a place that is not below 2 is refused by 8, whatever else is wrong but the mode: of a record on a line. Of a picture that is counted, "in modes 3 to 10
 -- refused by 8 if not below the pictures to an address". Shut out: 10 given for it; place 3 of 72 counted, or place 5 of 24x5.
 pub place-refused-by-8 :
-    (mode : ℕ) (shows : Shows) (r : Record) → 3 ≤ mode → mode ≤ 5 → 2 ≤ r .place → carriedIn mode shows r ≡ Unpackable outside-the-clock
+    (mode : ℕ) (shows : Shows) (r : Record) → 3 ≤ mode → mode ≤ 5 → 2 ≤ r .place → carriedIn mode shows r ≡ Unpackable 8
 unfolding carriedIn
 place-refused-by-8 mode shows r pair few high = rw (known-exactly mode .1 few, pairs mode pair few, le-leb 2 (r .place) high)
 
 pub counted-place-refused-by-8 :
-    (mode : ℕ) (drop : Flag) (p : Picture) → 3 ≤ mode → mode ≤ 10 → picturesAt mode ≤ p .place → numberIn mode drop p ≡ Unnumbered outside-the-clock
+    (mode : ℕ) (drop : Flag) (p : Picture) → 3 ≤ mode → mode ≤ 10 → picturesAt mode ≤ p .place → numberIn mode drop p ≡ Unnumbered 8
 unfolding numberIn numberOf
 counted-place-refused-by-8 mode drop p more few high =
     rw (counted-exactly mode .1 few, lt-ltb 1 (picturesAt mode) (several-share mode more), le-leb (picturesAt mode) (p .place) high)
@@ -76,7 +76,7 @@ counted-place-refused-by-8 mode drop p more few high =
 -- and in modes 0 to 2 any place but the first by 10, as of a record: of a picture whose address has a number. Shut out: 8 given for it.
 pub counted-place-refused-by-10 :
     (mode : ℕ) (drop : Flag) (p : Picture) (n : DayFrame) → mode < 3 → numberIn mode drop (picture (p .address) 0) ≡ Number n → (p .place ≡ 0 → ⊥)
-    → numberIn mode drop p ≡ Unnumbered unused-bit-set
+    → numberIn mode drop p ≡ Unnumbered 10
 unfolding numberIn numberOf
 counted-place-refused-by-10 mode drop p n few stands other =
     let first = picture (p .address) 0 in
@@ -103,7 +103,7 @@ differs other exactly stands shown = (
 
 pub linear-refused-by-11 :
     (make : Found) (mode : ℕ) (r : Record) (start : ℕ) (run : List ℕ)
-    → linear make .Refuses mode r start run mark-set ↔ (OnLines mode r × ((r .flags .mark ≡ No) × FirstPicture r → ⊥))
+    → linear make .Refuses mode r start run 11 ↔ (OnLines mode r × ((r .flags .mark ≡ No) × FirstPicture r → ⊥))
 linear-refused-by-11 make mode r start run =
     differs (markOrSecond mode r) (eleven.linear-refused-by-11 mode r start run) (on-lines-exactly mode r) (λ ok. (there, back))
   where
@@ -117,14 +117,14 @@ linear-refused-by-11 make mode r start run =
 
 pub interval-refused-by-11 :
     (mode : ℕ) (r : Record) (start : ℕ) (run : List ℕ)
-    → interval .Refuses mode r start run mark-set ↔ (OnLines mode r × (MarkSays mode r → ⊥))
+    → interval .Refuses mode r start run 11 ↔ (OnLines mode r × (MarkSays mode r → ⊥))
 interval-refused-by-11 mode r start run =
     differs (unshown mode ByMark r) (eleven.interval-refused-by-11 mode r start run) (on-lines-exactly mode r)
     (λ ok. mark-says-exactly mode r (ok .1) (ok .0))
 
 pub ancillary-refused-by-11 :
     (interface : Interface) (mode : ℕ) (c : Contents) (start : ℕ) (run : List ℕ)
-    → ancillary interface .Refuses mode c start run mark-set
+    → ancillary interface .Refuses mode c start run 11
     ↔ ((Acceptable mode (c .«record»)
     × (PayloadType mode (c .«payload_type») × (ClaimsImpossibleLine interface (c .«payload_type») (c .second) → ⊥) × NamesMode mode (c .second)))
     × (PacketShows mode (c .«payload_type») (c .«record») → ⊥))

@@ -3,7 +3,7 @@
 -- Assumes nothing.
 use Prim.Native.Nat.{ℕ, _≤_}
 use mathlib.Core.Path.{_≡_, refl, sym}
-use mathlib.Core.Bool.{Bool, true, false, not, true≢false}
+use mathlib.Core.Bool.{Bool, true, false, true≢false}
 use mathlib.Core.List.{List}
 use mathlib.Core.Logic.{_↔_}
 use native.Mathlib.Omega.{arith}
@@ -18,7 +18,6 @@ use Rattle.record.specs.declared.types.Record.{Record}
 use Rattle.record.specs.Record.{addressHeld, recordOf}
 use Rattle.words.specs.Words.{infoIn}
 use Rattle.packets.specs.Packet.{dataIn, typeIn, secondIn}
-use Rattle.packets.specs.Calls.{formRefusals}
 use Rattle.atc.specs.declared.types.Interface.{Interface}
 use Rattle.atc.specs.declared.types.Packet.the-variants.{Refused as Turned}
 use Rattle.atc.specs.Calls.{readRefusals, readOf, writtenRows, writtenOf}
@@ -29,6 +28,8 @@ use Rattle.demands.specs.Families.{PayloadType, NamesMode}
 use Rattle.demands.specs.Refused.{Eight, EightHeld, Nine, Ten, TenHeld}
 use Rattle.demands.proofs.Accepted.{counted-exactly}
 use Rattle.demands.proofs.Families.{payload-exactly}
+use Rattle.demands.specs.Form.{Form}
+use Rattle.demands.proofs.Numbers.{with-front, form-exactly}
 use Rattle.demands.proofs.Tests.{eight-exactly, nine-exactly, ten-exactly, eight-held-exactly, ten-held-exactly}
 
 -- three numbers that follow each other in a list, 8, 9 and 10: what is before them, and a test of each
@@ -38,19 +39,19 @@ module _ {Before A B C : Type 0} (s t u : Bool) (first : Before → (s ≡ true)
   without true is = (λ e. absurd (true≢false e), λ none. absurd (none (is .0 refl)))
   without false is = (λ e so. true≢false (sym (is .1 so)), λ none. refl)
 
-  eighth : {Given : Type 0} → Given ↔ (Before × (s ≡ true)) → Given ↔ (Before × A)
+  pub eighth : {Given : Type 0} → Given ↔ (Before × (s ≡ true)) → Given ↔ (Before × A)
   eighth exactly = (
     λ e. (let is = exactly .0 e in (is .0, first (is .0) .0 (is .1))),
     λ all. exactly .1 (all .0, first (all .0) .1 (all .1)),
   )
 
-  ninth : {Given : Type 0} → Given ↔ ((Before × (s ≡ false)) × (t ≡ true)) → Given ↔ (Before × (A → ⊥) × B)
+  pub ninth : {Given : Type 0} → Given ↔ ((Before × (s ≡ false)) × (t ≡ true)) → Given ↔ (Before × (A → ⊥) × B)
   ninth exactly = (
     λ e. (let is = exactly .0 e in (is .0 .0, without s (first (is .0 .0)) .0 (is .0 .1), second (is .0 .0) .0 (is .1))),
     λ all. exactly .1 ((all .0, without s (first (all .0)) .1 (all .1)), second (all .0) .1 (all .2)),
   )
 
-  tenth : {Given : Type 0} → Given ↔ (((Before × (s ≡ false)) × (t ≡ false)) × (u ≡ true)) → Given ↔ (Before × (A → ⊥) × (B → ⊥) × C)
+  pub tenth : {Given : Type 0} → Given ↔ (((Before × (s ≡ false)) × (t ≡ false)) × (u ≡ true)) → Given ↔ (Before × (A → ⊥) × (B → ⊥) × C)
   tenth exactly = (
     λ e.
         (let is = exactly .0 e in
@@ -58,10 +59,6 @@ module _ {Before A B C : Type 0} (s t u : Bool) (first : Before → (s ≡ true)
         (before, without s (first before) .0 (is .0 .0 .1), without t (second before) .0 (is .0 .1), third before .0 (is .1))),
     λ all. exactly .1 (((all .0, without s (first (all .0)) .1 (all .1)), without t (second (all .0)) .1 (all .2)), third (all .0) .1 (all .3)),
   )
-
--- the same where the front is said in other words
-with-front : {Given Front Rest Before : Type 0} → Given ↔ (Front × Rest) → Front ↔ Before → Given ↔ (Before × Rest)
-with-front exactly front = (λ e. (let is = exactly .0 e in (front .0 (is .0), is .1)), λ all. exactly .1 (front .1 (all .0), all .1))
 
 module _ (interface : Interface) (mode : ℕ) where
   -- what comes before 8, 9 and 10: the mode is counted, and type, line and second byte are right
@@ -83,7 +80,7 @@ module _ (interface : Interface) (mode : ℕ) where
       λ ok. (counted-exactly mode .1 (ok .0), payload-exactly mode (ok .0) interface type second .1 (ok .1)),
     )
 
-    pub ancillary-written-refused-by-8 : (writtenOf mode interface r type second start run ≡ Unwritten outside-the-clock) ↔ (Before × Eight mode r)
+    pub ancillary-written-refused-by-8 : (writtenOf mode interface r type second start run ≡ Unwritten 8) ↔ (Before × Eight mode r)
     unfolding writtenOf
     ancillary-written-refused-by-8 =
         let exactly =
@@ -93,7 +90,7 @@ module _ (interface : Interface) (mode : ℕ) where
         (with-front exactly front)
 
     pub ancillary-written-refused-by-9 :
-        (writtenOf mode interface r type second start run ≡ Unwritten skipped-address) ↔ (Before × (Eight mode r → ⊥) × Nine mode (r .flags .drop) (r .address))
+        (writtenOf mode interface r type second start run ≡ Unwritten 9) ↔ (Before × (Eight mode r → ⊥) × Nine mode (r .flags .drop) (r .address))
     unfolding writtenOf
     ancillary-written-refused-by-9 =
         let exactly =
@@ -107,7 +104,7 @@ module _ (interface : Interface) (mode : ℕ) where
         ))
 
     pub ancillary-written-refused-by-10 :
-        (writtenOf mode interface r type second start run ≡ Unwritten unused-bit-set)
+        (writtenOf mode interface r type second start run ≡ Unwritten 10)
         ↔ (Before × (Eight mode r → ⊥) × (Nine mode (r .flags .drop) (r .address) → ⊥) × Ten mode r)
     unfolding writtenOf
     ancillary-written-refused-by-10 =
@@ -129,10 +126,10 @@ module _ (interface : Interface) (mode : ℕ) where
     info = infoIn (dataIn words)
 
     abbrev ReadBefore : Type 0
-    ReadBefore = Clear (formRefusals mode words) × Sound (typeIn words) (secondIn words)
+    ReadBefore = Form mode words × Sound (typeIn words) (secondIn words)
 
     few-of : ReadBefore → mode ≤ 10
-    few-of ok = counted-exactly mode .0 (clear-at unknown-mode (formRefusals mode words) (ok .0))
+    few-of ok = ok .0 .counted
 
     read-front : Clear (rowsBefore outside-the-clock read-rows) ↔ ReadBefore
     read-front =
@@ -140,11 +137,11 @@ module _ (interface : Interface) (mode : ℕ) where
           λ clear.
               (let form = clear-before unknown-type up-to clear in
               let few = counted-exactly mode .0 (clear-at unknown-mode up-to clear) in
-              (form, payload-exactly mode few interface (typeIn words) (secondIn words) .0 (clear-from unknown-type up-to clear))),
-          λ ok. clear-whole unknown-type up-to (ok .0) (payload-exactly mode (few-of ok) interface (typeIn words) (secondIn words) .1 (ok .1)),
+              (form-exactly mode words .0 form, payload-exactly mode few interface (typeIn words) (secondIn words) .0 (clear-from unknown-type up-to clear))),
+          λ ok. clear-whole unknown-type up-to (form-exactly mode words .1 (ok .0)) (payload-exactly mode (few-of ok) interface (typeIn words) (secondIn words) .1 (ok .1)),
         )
 
-    pub ancillary-refused-by-8 : (readOf mode interface words ≡ Turned outside-the-clock) ↔ (ReadBefore × EightHeld mode info)
+    pub ancillary-refused-by-8 : (readOf mode interface words ≡ Turned 8) ↔ (ReadBefore × EightHeld mode info)
     unfolding readOf recordOf
     ancillary-refused-by-8 =
         let exactly = given-exactly Turned _ ofPacket (λ k. refl) refl outside-the-clock (omega arith) read-rows (read-rows-in-order mode interface words) in
@@ -154,7 +151,7 @@ module _ (interface : Interface) (mode : ℕ) where
         (with-front exactly read-front)
 
     pub ancillary-refused-by-9 :
-        (readOf mode interface words ≡ Turned skipped-address) ↔ (ReadBefore × (EightHeld mode info → ⊥) × Nine mode (flagAt 10 info) (addressHeld info))
+        (readOf mode interface words ≡ Turned 9) ↔ (ReadBefore × (EightHeld mode info → ⊥) × Nine mode (flagAt 10 info) (addressHeld info))
     unfolding readOf recordOf
     ancillary-refused-by-9 =
         let exactly = given-exactly Turned _ ofPacket (λ k. refl) refl skipped-address (omega arith) read-rows (read-rows-in-order mode interface words) in
@@ -168,7 +165,7 @@ module _ (interface : Interface) (mode : ℕ) where
         ))
 
     pub ancillary-refused-by-10 :
-        (readOf mode interface words ≡ Turned unused-bit-set)
+        (readOf mode interface words ≡ Turned 10)
         ↔ (ReadBefore × (EightHeld mode info → ⊥) × (Nine mode (flagAt 10 info) (addressHeld info) → ⊥) × TenHeld mode info)
     unfolding readOf recordOf
     ancillary-refused-by-10 =

@@ -23,14 +23,18 @@ use Rattle.pictures.specs.declared.types.Pictured.the-variants.{At, Refused as 
 use Rattle.pictures.specs.declared.types.InSecond.{InSecond}
 use Rattle.pictures.specs.declared.types.InSecond.the-variants.{Number as Counted, Refused as Uncounted}
 use Rattle.pictures.specs.Pictures.{picture}
+use Rattle.record.specs.declared.types.Flags.{Flags}
+use Rattle.record.specs.declared.types.Groups.{Groups}
 use Rattle.record.specs.declared.types.Record.{Record}
 use Rattle.runs.specs.declared.types.Written.{Written}
 use Rattle.runs.specs.declared.types.Written.the-variants.{Done, Refused as Unwritten}
-use Rattle.modes.specs.Calls.{numberIn, inSecondIn, pictureIn, fieldsIn, spanIn}
+use Rattle.modes.specs.Calls.{numberIn, inSecondIn, pictureIn, fieldsIn, spanIn, plusIn}
 use Rattle.polarity.specs.declared.types.Found.the-variants.{Corrected}
 use Rattle.ltc.specs.Calls as ltc
 use Rattle.vitc.specs.Calls as vitc
 use Rattle.atc.specs.declared.types.Interface.the-variants.{HighDefinition}
+use Rattle.atc.specs.declared.types.Packet.{Packet}
+use Rattle.atc.specs.declared.types.Packet.the-variants.{Holds as Carries, Refused as Turned}
 use Rattle.atc.specs.Calls as atc
 
 -- what a call tells, whichever it is: a number, a picture, a signed count, the elements that a write leaves, or a refusal
@@ -214,21 +218,32 @@ pairBars =
 
 -- Document 02, A6: "120 drop has 10,357,632 pictures a day", "72 refuses 3, and 24x5 refuses 5, 6 and 7", "drop by its flag, which 6 to 9 refuse by 10", "LTC and VITC refuse them by 2, and 2
 -- begins above 10 elsewhere", and what goes with it: the last picture of a day in a mode and the first number that is refused; the highest number within a second; the step over
--- the skipped numbers of 120 drop; the second byte of another mode; flags that are set; and four packets: place 1 of 72, the last places of 100 and of 24x5, and place 2 of
--- 10:01:00;02 at 120 drop
+-- the skipped numbers of 120 drop; distances and sums that count pictures; types and second bytes that are not the mode's; a mark that is set; packets of each mode, with groups, read
+-- and written; two of modes 0 to 5, with flags, groups and a second byte, beside them; and packets whose checksum or low bits are wrong, where the type is as well
 abbrev ofWritten : Written → List ℕ → Told
 ofWritten Done left = elements left
 ofWritten (Unwritten n) left = refusedBy n
 
--- a record of a picture, with a mark or without
+-- a record of a picture, its flags drop, colour, mark, BGF0, BGF1 and BGF2, and its groups
+abbrev flagsOf : Flag → Flag → Flag → Flag → Flag → Flag → Flags
+flagsOf drop colour mark bgf0 bgf1 bgf2 = record { drop = drop; colour = colour; mark = mark; bgf0 = bgf0; bgf1 = bgf1; bgf2 = bgf2 }
+
+abbrev groupsOf : ℕ → ℕ → ℕ → ℕ → ℕ → ℕ → ℕ → ℕ → Groups
+groupsOf g1 g2 g3 g4 g5 g6 g7 g8 = record { group1 = g1; group2 = g2; group3 = g3; group4 = g4; group5 = g5; group6 = g6; group7 = g7; group8 = g8 }
+
+abbrev recordOf : Picture → Flags → Groups → Record
+recordOf p flags groups = record { address = p .address; flags = flags; groups = groups; place = p .place }
+
+-- a record without groups, with a mark or without
 abbrev recordAt : Picture → Flag → Flag → Record
-recordAt p drop mark =
-    record {
-      address = p .address;
-      flags = record { drop = drop; colour = No; mark = mark; bgf0 = No; bgf1 = No; bgf2 = No };
-      groups = record { group1 = 0; group2 = 0; group3 = 0; group4 = 0; group5 = 0; group6 = 0; group7 = 0; group8 = 0 };
-      place = p .place;
-    }
+recordAt p drop mark = recordOf p (flagsOf drop No mark No No No) (groupsOf 0 0 0 0 0 0 0 0)
+
+-- with groups 1 to 8, or 15 to 8
+abbrev rising : Groups
+rising = groupsOf 1 2 3 4 5 6 7 8
+
+abbrev falling : Groups
+falling = groupsOf 15 14 13 12 11 10 9 8
 
 -- what a write of it into a packet tells
 abbrev inPacket : ℕ → Record → ℕ → ℕ → Told
@@ -237,6 +252,37 @@ inPacket mode r type second =
 
 abbrev midnightAt : ℕ → Picture
 midnightAt place = picture (showing 0 0 0 0) place
+
+-- the distance from one picture to another, and a picture so many on or back
+abbrev between : ℕ → Flag → Picture → Picture → Told
+between mode drop from to = ofSpan (spanIn mode drop from to)
+
+abbrev on : ℕ → Flag → Picture → ℤ → Told
+on mode drop p z = ofPictured (plusIn mode drop p z)
+
+-- what a read of a packet tells: its picture
+abbrev ofRead : Packet → Told
+ofRead (Carries c) = shows (picture (c .«record» .address) (c .«record» .place))
+ofRead (Turned n) = refusedBy n
+
+abbrev readAs : ℕ → List ℕ → Told
+readAs mode words = ofRead (atc.readOf mode HighDefinition words)
+
+-- midnight, place 1 of 72; the same with another checksum and type 90 hex; and with type 90 hex and b0 of the first data word set
+abbrev of72 : List ℕ
+of72 =
+    0x000 ∷ 0x3FF ∷ 0x3FF ∷ 0x260 ∷ 0x161 ∷ 0x110 ∷ 0x200 ∷ 0x200 ∷ 0x180 ∷ 0x200 ∷ 0x200 ∷ 0x200 ∷ 0x200 ∷ 0x108 ∷ 0x108 ∷ 0x108
+    ∷ 0x200 ∷ 0x200 ∷ 0x200 ∷ 0x200 ∷ 0x200 ∷ 0x200 ∷ 0x169 ∷ []
+
+abbrev wrongSum : List ℕ
+wrongSum =
+    0x000 ∷ 0x3FF ∷ 0x3FF ∷ 0x260 ∷ 0x161 ∷ 0x110 ∷ 0x200 ∷ 0x200 ∷ 0x180 ∷ 0x200 ∷ 0x108 ∷ 0x200 ∷ 0x200 ∷ 0x108 ∷ 0x108 ∷ 0x108
+    ∷ 0x200 ∷ 0x200 ∷ 0x200 ∷ 0x200 ∷ 0x200 ∷ 0x200 ∷ 0x270 ∷ []
+
+abbrev lowBit : List ℕ
+lowBit =
+    0x000 ∷ 0x3FF ∷ 0x3FF ∷ 0x260 ∷ 0x161 ∷ 0x110 ∷ 0x101 ∷ 0x200 ∷ 0x180 ∷ 0x200 ∷ 0x108 ∷ 0x200 ∷ 0x200 ∷ 0x108 ∷ 0x108 ∷ 0x108
+    ∷ 0x200 ∷ 0x200 ∷ 0x200 ∷ 0x200 ∷ 0x200 ∷ 0x200 ∷ 0x172 ∷ []
 
 unfoldable pub highBars : List Bar
 highBars =
@@ -277,6 +323,7 @@ highBars =
     ∷ (inPacket 11 (recordAt (midnightAt 0) No No) 0x80 0x44 is refusedBy 2)
     ∷ (inPacket 9 (recordAt (midnightAt 0) No No) 0x90 0x05 is refusedBy 7)
     ∷ (inPacket 9 (recordAt (midnightAt 5) No No) 0x80 0x85 is refusedBy 23)
+    ∷ (inPacket 9 (recordAt (midnightAt 5) No No) 0x80 0x44 is refusedBy 23)
     ∷ (inPacket 9 (recordAt (midnightAt 5) No No) 0x80 0x05 is refusedBy 8)
     ∷ (inPacket 9 (recordAt (midnightAt 4) No Yes) 0x80 0x05 is refusedBy 10)
     ∷ (inPacket 6 (recordAt (midnightAt 1) No No) 0x80 0x03 is elements (
@@ -291,4 +338,31 @@ highBars =
     ∷ (inPacket 10 (recordAt (picture (showing 10 1 0 2) 2) Yes No) 0x80 0x44 is elements (
     0x000 ∷ 0x3FF ∷ 0x3FF ∷ 0x260 ∷ 0x161 ∷ 0x110 ∷ 0x120 ∷ 0x200 ∷ 0x140 ∷ 0x200 ∷ 0x200 ∷ 0x200 ∷ 0x180 ∷ 0x108 ∷ 0x110 ∷ 0x200
     ∷ 0x108 ∷ 0x200 ∷ 0x200 ∷ 0x200 ∷ 0x218 ∷ 0x200 ∷ 0x1E9 ∷ []))
+    ∷ (inPacket 10 (recordOf (picture (showing 12 34 56 7) 1) (flagsOf No No No No No No) rising) 0x84 0x44 is elements (
+    0x000 ∷ 0x3FF ∷ 0x3FF ∷ 0x260 ∷ 0x161 ∷ 0x110 ∷ 0x170 ∷ 0x110 ∷ 0x288 ∷ 0x120 ∷ 0x260 ∷ 0x230 ∷ 0x250 ∷ 0x248 ∷ 0x140 ∷ 0x250
+    ∷ 0x138 ∷ 0x260 ∷ 0x120 ∷ 0x170 ∷ 0x218 ∷ 0x180 ∷ 0x171 ∷ []))
+    ∷ (inPacket 7 (recordOf (picture (showing 12 34 56 7) 3) (flagsOf No No No No No No) falling) 0x88 0x04 is elements (
+    0x000 ∷ 0x3FF ∷ 0x3FF ∷ 0x260 ∷ 0x161 ∷ 0x110 ∷ 0x170 ∷ 0x2F0 ∷ 0x180 ∷ 0x2E8 ∷ 0x260 ∷ 0x1D0 ∷ 0x1D0 ∷ 0x1C8 ∷ 0x140 ∷ 0x1B0
+    ∷ 0x138 ∷ 0x2A0 ∷ 0x120 ∷ 0x290 ∷ 0x110 ∷ 0x180 ∷ 0x269 ∷ []))
+    ∷ (inPacket 9 (recordOf (picture (showing 1 2 3 4) 3) (flagsOf No No No No No No) rising) 0x80 0x05 is elements (
+    0x000 ∷ 0x3FF ∷ 0x3FF ∷ 0x260 ∷ 0x161 ∷ 0x110 ∷ 0x140 ∷ 0x110 ∷ 0x180 ∷ 0x120 ∷ 0x230 ∷ 0x230 ∷ 0x200 ∷ 0x248 ∷ 0x228 ∷ 0x250
+    ∷ 0x288 ∷ 0x260 ∷ 0x110 ∷ 0x170 ∷ 0x200 ∷ 0x180 ∷ 0x1C9 ∷ []))
+    ∷ (inPacket 2 (recordOf (picture (showing 12 34 56 7) 0) (flagsOf No Yes No Yes No Yes) falling) 2 0x8A is elements (
+    0x000 ∷ 0x3FF ∷ 0x3FF ∷ 0x260 ∷ 0x260 ∷ 0x110 ∷ 0x170 ∷ 0x1F8 ∷ 0x180 ∷ 0x1E0 ∷ 0x260 ∷ 0x1D0 ∷ 0x250 ∷ 0x2C0 ∷ 0x140 ∷ 0x2B8
+    ∷ 0x1B0 ∷ 0x1A8 ∷ 0x120 ∷ 0x290 ∷ 0x290 ∷ 0x288 ∷ 0x1F0 ∷ []))
+    ∷ (inPacket 1 (recordOf (picture (showing 1 2 3 4) 0) (flagsOf No No Yes Yes Yes No) rising) 0 0x75 is elements (
+    0x000 ∷ 0x3FF ∷ 0x3FF ∷ 0x260 ∷ 0x260 ∷ 0x110 ∷ 0x140 ∷ 0x110 ∷ 0x200 ∷ 0x120 ∷ 0x230 ∷ 0x230 ∷ 0x180 ∷ 0x140 ∷ 0x228 ∷ 0x250
+    ∷ 0x108 ∷ 0x260 ∷ 0x218 ∷ 0x278 ∷ 0x1C8 ∷ 0x180 ∷ 0x218 ∷ []))
+    ∷ (readAs 6 of72 is shows (midnightAt 1))
+    ∷ (readAs 7 of72 is refusedBy 23)
+    ∷ (readAs 5 of72 is refusedBy 4)
+    ∷ (readAs 6 wrongSum is refusedBy 5)
+    ∷ (readAs 6 lowBit is refusedBy 6)
+    ∷ (between 6 No (midnightAt 0) (picture (showing 0 0 1 0) 0) is frames (pos 72))
+    ∷ (between 9 No (picture (showing 23 59 59 23) 4) (midnightAt 0) is frames (pos 1))
+    ∷ (between 10 Yes (picture (showing 0 1 0 2) 0) (picture (showing 0 0 59 29) 3) is frames (negsuc 0))
+    ∷ (on 10 Yes (picture (showing 0 0 59 29) 3) (pos 1) is shows (picture (showing 0 1 0 2) 0))
+    ∷ (on 9 No (midnightAt 0) (negsuc 0) is shows (picture (showing 23 59 59 23) 4))
+    ∷ (ofPictured (fieldsIn 6 No (midnightAt 2)) is shows (midnightAt 2))
+    ∷ (ofPictured (fieldsIn 6 No (midnightAt 3)) is refusedBy 8)
     ∷ []

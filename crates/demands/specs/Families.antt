@@ -1,5 +1,5 @@
 -- Document 02, A6, of packets: "161 (hex) as its fifth word and type 80 to 8F hex", the second byte by section 9.2.2 of source document 003 (ST 12-3), and the sub-frame bits by its
--- Table 2, as they are printed. `superframes` computes them from the rate and the pictures to an address; that both say the same is a law.
+-- Table 2, as they are printed. `packets` says the first two by the mode, and `superframes` computes the others from the rate and the pictures to an address; that both say the same is a law.
 -- Assumes nothing.
 use Prim.Native.Nat.{ℕ, _+_, _*_, _/_, _%_, _^_, _≤_}
 use mathlib.Core.Path.{_≡_}

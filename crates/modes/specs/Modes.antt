@@ -50,7 +50,7 @@ rowOf [] n = At30 by 2
 rowOf (row ∷ rows) zero = row
 rowOf (row ∷ rows) (suc n) = rowOf rows n
 
--- the rate of a mode that is known, and how many pictures share an address
+-- the rate of a mode that is counted, and how many pictures share an address
 unfoldable pub rateAt : ℕ → Rate
 rateAt mode = rowOf (table ++ highRates) mode .rate
 

@@ -16,7 +16,7 @@ use Rattle.record.specs.declared.types.Packed.{Packed}
 use Rattle.record.specs.declared.types.Packed.the-variants.{Bits, Refused as Unpackable}
 use Rattle.record.specs.Record.{recordOf, infoOf, digitAbove9, groupAbove15}
 use Rattle.modes.specs.Modes.{rateAt, picturesAt, highRate}
-use Rattle.superframes.specs.SubFrames.{placeIn, otherSet, flagSet, gathered, spread}
+use Rattle.superframes.specs.SubFrames.{placeIn, otherSet, flagBesidesDrop, gathered, spread}
 
 -- reading: 8 as of any bits, or a place "not below the pictures to an address"; 9; 10 "Other sub-frame bits", or drop at 24 or 25
 abbrev pub bitsRefusals : Rate → ℕ → ℕ → List Refusal
@@ -28,7 +28,7 @@ bitsRefusals rate pictures info =
 -- writing: 8 as of any record, its place among them; 9; 10 "colour, mark or a group flag set", or drop at 24 or 25
 abbrev pub writeRefusals : Rate → ℕ → Record → List Refusal
 writeRefusals rate pictures r =
-    refusalsBesides (placeOutside pictures (r .place) || groupAbove15 (r .groups)) (flagSet (r .flags)) rate (r .flags .drop) (r .address)
+    refusalsBesides (placeOutside pictures (r .place) || groupAbove15 (r .groups)) (flagBesidesDrop (r .flags)) rate (r .flags .drop) (r .address)
 
 -- at a rate, with so many pictures to a super-frame
 unfoldable pub unpackedOf : Rate → ℕ → ℕ → Unpacked

@@ -37,8 +37,8 @@ abbrev pub otherSet : ℕ → Flags → Bool
 otherSet pictures f = (twoBits pictures && isYes (f .bgf0)) || (isYes (f .bgf1) || isYes (f .bgf2))
 
 -- "A record with colour, mark or a group flag set"
-abbrev pub flagSet : Flags → Bool
-flagSet f = isYes (f .colour) || (isYes (f .mark) || (isYes (f .bgf0) || (isYes (f .bgf1) || isYes (f .bgf2))))
+abbrev pub flagBesidesDrop : Flags → Bool
+flagBesidesDrop f = isYes (f .colour) || (isYes (f .mark) || (isYes (f .bgf0) || (isYes (f .bgf1) || isYes (f .bgf2))))
 
 -- read: the record of a place, with no flag but drop; and that of the place that the sub-frame bits say
 abbrev pub placedAt : ℕ → Flag → Record → Record

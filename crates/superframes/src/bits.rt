@@ -1,7 +1,7 @@
 // Sub-frame bits and a place. Sub-frame 1 stands where the mark does, 2 where the colour flag does, 3 where BGF0 does.
 ghost use mathlib.Core.Path.{_≡_};
 ghost use Prim.Native.Nat.{_+_};
-ghost use Rattle.superframes.specs.SubFrames.{twoBits, placeSaid, threeFor, otherSet, flagSet};
+ghost use Rattle.superframes.specs.SubFrames.{twoBits, placeSaid, threeFor, otherSet, flagBesidesDrop};
 use layout::bit;
 use rates::Flag;
 use rates::is_yes;
@@ -44,8 +44,8 @@ pub fn has_other_set(last: u8, flags: Flags) -> bool
     (has_two_bits(last) & is_yes(third)) | (is_yes(fourth) | is_yes(fifth))
 }
 
-pub fn has_flag_set(flags: Flags) -> bool
-    ensures { λ r. ⌜ r ≡ flagSet flags ⌝ }
+pub fn has_flag_besides_drop(flags: Flags) -> bool
+    ensures { λ r. ⌜ r ≡ flagBesidesDrop flags ⌝ }
 {
     let colour = flags.colour;
     let mark = flags.mark;

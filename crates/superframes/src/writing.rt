@@ -4,7 +4,7 @@ ghost use Prim.Native.Nat.{_+_};
 ghost use Rattle.superframes.specs.SubFrames.{flagged};
 ghost use Rattle.superframes.specs.Bare.{bare};
 ghost use Rattle.superframes.specs.Calls.{packedOf, packedIn};
-use crate::bits::has_flag_set;
+use crate::bits::has_flag_besides_drop;
 use crate::bits::three_for;
 use layout::bit;
 use layout::flag;
@@ -51,7 +51,7 @@ fn packed(rate: Rate, last: u8, r: Record) -> Packed
     let flags = r.flags;
     let drop = flags.drop;
     let address = r.address;
-    let found = rates::judge(rate, drop, address, outside, has_flag_set(flags));
+    let found = rates::judge(rate, drop, address, outside, has_flag_besides_drop(flags));
     match found {
         Verdict::Refused(number) => Packed::Refused(number),
         Verdict::Sound => {

@@ -25,7 +25,7 @@ use Rattle.record.specs.Record.{recordOf, infoOf, digitAbove9, groupAbove15}
 use Rattle.record.proofs.Accepted.{writable}
 use Rattle.modes.specs.Modes.{highRate, rateAt, picturesAt}
 use Rattle.modes.proofs.EachMode.{few-pictures, several-share, high-exactly}
-use Rattle.superframes.specs.SubFrames.{twoBits, threeAs, threeFor, placeIn, otherSet, flagSet, gathered, spread}
+use Rattle.superframes.specs.SubFrames.{twoBits, threeAs, placeIn, otherSet, flagBesidesDrop, gathered, spread}
 use Rattle.superframes.specs.Calls.{bitsRefusals, writeRefusals, unpackedOf, packedOf, unpackedIn, packedIn}
 use Rattle.superframes.specs.Bare.{bare}
 use Rattle.superframes.proofs.Bare.{bare-clear}
@@ -79,7 +79,7 @@ flags-again false Yes Yes No unset = (refl, (refl, refl))
 flags-again false Yes Yes Yes unset = (refl, (refl, refl))
 
 -- a record with no flag but drop, spread and gathered, is itself
-gathered-again : (pictures : ℕ) → pictures ≤ 8 → (r : Record) → r .place < pictures → flagSet (r .flags) ≡ false → gathered pictures (spread pictures r) ≡ r
+gathered-again : (pictures : ℕ) → pictures ≤ 8 → (r : Record) → r .place < pictures → flagBesidesDrop (r .flags) ≡ false → gathered pictures (spread pictures r) ≡ r
 gathered-again pictures few r low plain =
     let f = r .flags in
     let colour = neither (isYes (f .colour)) _ plain in
@@ -139,7 +139,7 @@ module _ (rate : Rate) (pictures : ℕ) (several : 1 < pictures) (few : pictures
       let info = infoOf rate s in
       let eight = neither (placeOutside pictures (r .place) || groupAbove15 (r .groups)) _ (clear-at outside-the-clock rows clear) in
       let bad = neither (placeOutside pictures (r .place)) (groupAbove15 (r .groups)) (eight .0) in
-      let ten = neither (flagSet (r .flags)) _ (clear-at unused-bit-set rows clear) in
+      let ten = neither (flagBesidesDrop (r .flags)) _ (clear-at unused-bit-set rows clear) in
       let place = below pictures (r .place) several (bad .0) in
       let fits = writable rate (bare r) (bare-clear rate r (bad .1) (eight .1)) in
       let held : recordOf rate info ≡ s = read-back rate s fits in

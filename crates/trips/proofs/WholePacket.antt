@@ -21,7 +21,7 @@ use Rattle.modes.specs.Modes.{highRate, uncounted}
 use Rattle.words.specs.Words.{withOpposite, wrongWord, lowSet, someWord, dataWords, nibbleIn, bitIn, infoIn, byteIn, sum9}
 use Rattle.words.proofs.Lists.{length-dataWords, take-dataWords, drop-dataWords, shifted, gathered-below}
 use Rattle.words.proofs.Data.{AllMade, all-made, all-again, byte-value, carried-all-bits}
-use Rattle.packets.specs.Packet.{fifthWord, header, isHeaded, checksumOf, carriedOf, frontOf, packetWith, dataIn, typeIn, secondIn}
+use Rattle.packets.specs.Packet.{header, isHeaded, checksumOf, carriedOf, frontOf, packetWith, dataIn, typeIn, secondIn}
 use Rattle.packets.specs.Calls.{formRefusals}
 use Rattle.packets.proofs.Pieces.{length-carried, length-front, length-packet, checksum-of-front}
 use Rattle.atc.proofs.Answers.{size}

@@ -1,7 +1,7 @@
 -- `superframes::naming::is_misnamed` meets its contract: no name is asked for, or another is given.
 -- Assumes nothing.
 use Prim.Native.Nat.{ℕ, _+_}
-use mathlib.Core.Path.{_≡_, refl}
+use mathlib.Core.Path.{_≡_}
 use mathlib.Core.Bool.{false, not}
 use lib.Dec.{eqb}
 use Rattle.rates.specs.declared.types.Rate.{Rate}

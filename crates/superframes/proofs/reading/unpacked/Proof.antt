@@ -1,7 +1,7 @@
 -- `superframes::reading::unpacked` meets its contract: 8 as `record` gives it, and then what is judged after it.
 -- Assumes nothing.
 use Prim.Native.Nat.{ℕ, _+_, _/_, _%_}
-use mathlib.Core.Path.{_≡_, refl, sym, ap, _∙_}
+use mathlib.Core.Path.{_≡_, refl, sym, _∙_}
 use mathlib.Core.Bool.{Bool, true, false, _||_, cond}
 use native.Mathlib.Omega.{arith}
 use Rattle.refusals.proofs.Answered.{neither}

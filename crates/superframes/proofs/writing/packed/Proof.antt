@@ -3,11 +3,10 @@
 use Prim.Native.Nat.{ℕ, _+_, _*_, _/_, _%_, _^_, _<_}
 use mathlib.Core.Path.{_≡_, refl, sym, ap, _∙_}
 use mathlib.Core.Bool.{Bool, true, false, _||_, cond}
-use mathlib.Core.List.{List}
 use native.Mathlib.Omega.{arith}
 use Rattle.refusals.specs.declared.types.Verdict.{Verdict}
 use Rattle.refusals.specs.declared.types.Verdict.the-variants.{Sound, Refused as Unsound}
-use Rattle.refusals.specs.Answer.{Refusal, verdictOf}
+use Rattle.refusals.specs.Answer.{verdictOf}
 use Rattle.refusals.proofs.Answered.{neither}
 use Rattle.refusals.proofs.Verdicts.{refused-by, passed-by}
 use Rattle.rates.specs.declared.types.Rate.{Rate}
@@ -24,7 +23,7 @@ use Rattle.record.specs.Record.{infoOf, groupAbove15}
 use Rattle.record.specs.Calls as at-rate
 use Rattle.record.proofs.Accepted.{writable}
 use Rattle.record.proofs.Marks.{info-below}
-use Rattle.superframes.specs.SubFrames.{threeFor, flagSet, flagged, spread}
+use Rattle.superframes.specs.SubFrames.{threeFor, flagBesidesDrop, flagged, spread}
 use Rattle.superframes.specs.Bare.{bare}
 use Rattle.superframes.specs.Calls.{writeRefusals, packedOf}
 use Rattle.superframes.proofs.Bare.{eight-alone, bare-clear, two-add}
@@ -88,7 +87,7 @@ module _ (rate : Rate) (last : ℕ) (r : Record) (three : ℕ) (spread-so : thre
       fits : info + 1024 * (drop-bit + 2 * second-bit) < 2 ^ 64
       fits = rw whole-bits (info-below rate whole (writable rate (bare r) (bare-clear rate r (stands .0 .0) (stands .0 .1))))
 
-    module _ (out : Bool) (looked : out ≡ placeOutside (last + 1) (r .place)) (set : Bool) (flagged-so : set ≡ flagSet (r .flags)) (found : Verdict)
+    module _ (out : Bool) (looked : out ≡ placeOutside (last + 1) (r .place)) (set : Bool) (flagged-so : set ≡ flagBesidesDrop (r .flags)) (found : Verdict)
         (judged : found ≡ verdictOf (refusalsBesides out set rate (r .flags .drop) (r .address))) where
       judged-so : found ≡ verdictOf (writeRefusals rate (last + 1) r)
       judged-so = judged ∙ rw (alone (placeOutside (last + 1) (r .place)) (groupAbove15 (r .groups)) (stands .0 .0), looked, flagged-so)
@@ -125,8 +124,8 @@ returns c = search refused
 is-place-outside-requires : tie.Need-is-place-outside-requires
 is-place-outside-requires c κs = search needs
 
-has-flag-set-requires : tie.Need-has-flag-set-requires
-has-flag-set-requires c κs = search needs
+has-flag-besides-drop-requires : tie.Need-has-flag-besides-drop-requires
+has-flag-besides-drop-requires c κs = search needs
 
 judge-requires : tie.Need-judge-requires
 judge-requires c κs = search needs
@@ -175,7 +174,7 @@ packed-spec =
     enum-told
     returns
     is-place-outside-requires
-    has-flag-set-requires
+    has-flag-besides-drop-requires
     judge-requires
     enum-known-found
     enum-told-2

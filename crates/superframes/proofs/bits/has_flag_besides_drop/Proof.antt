@@ -1,17 +1,17 @@
--- `superframes::bits::has_flag_set` meets its contract: its tests are those of the definition.
+-- `superframes::bits::has_flag_besides_drop` meets its contract: its tests are those of the definition.
 -- Assumes nothing.
 use mathlib.Core.Path.{_≡_}
 use mathlib.Core.Bool.{Bool, _||_}
 use Rattle.rates.specs.Rates.{isYes}
 use Rattle.record.specs.declared.types.Flags.{Flags}
-use Rattle.superframes.specs.SubFrames.{flagSet}
+use Rattle.superframes.specs.SubFrames.{flagBesidesDrop}
 use borrow.Author.Needs.{needs}
-use Rattle.superframes.proofs.bits.has_flag_set.Statement.{statement}
-use Rattle.superframes.proofs.bits.has_flag_set.Tie as tie
+use Rattle.superframes.proofs.bits.has_flag_besides_drop.Statement.{statement}
+use Rattle.superframes.proofs.bits.has_flag_besides_drop.Tie as tie
 
 each :
     (f : Flags) (a b c d e : Bool) → a ≡ isYes (f .colour) → b ≡ isYes (f .mark) → c ≡ isYes (f .bgf0) → d ≡ isYes (f .bgf1) → e ≡ isYes (f .bgf2)
-    → (a || (b || (c || (d || e)))) ≡ flagSet f
+    → (a || (b || (c || (d || e)))) ≡ flagBesidesDrop f
 each f a b c d e colour mark bgf0 bgf1 bgf2 = rw (colour, mark, bgf0, bgf1, bgf2)
 
 is-yes-requires : tie.Need-is-yes-requires
@@ -32,8 +32,8 @@ is-yes-requires-5 c κs = search needs
 returns : tie.Need-returns
 returns c = search each
 
-pub has-flag-set-spec : {M : Type 1} → statement M
-has-flag-set-spec =
+pub has-flag-besides-drop-spec : {M : Type 1} → statement M
+has-flag-besides-drop-spec =
     tie.close
     (tie.spec
     is-yes-requires
