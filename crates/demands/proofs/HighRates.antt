@@ -1,4 +1,4 @@
--- Document 02, A6, of packets in modes 6 to 10: where a picture's place stands, and the words that a packet opens with. (What they are refused by, exactly, is in Refused and Given.)
+-- Document 02, A6, of packets in modes 6 to 10: where a picture's place stands, and the words that a packet opens with. (What they are refused by, exactly, is in Numbers, Refused and Demand2.)
 -- Assumes nothing.
 use Prim.Native.Nat.{ℕ, _≤_}
 use mathlib.Core.Path.{_≡_, refl, subst, _∙_}

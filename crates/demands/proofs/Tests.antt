@@ -36,7 +36,7 @@ either-exactly true t first second = (λ e. inl (first .0 refl), λ any. refl)
 either-exactly false t first second = (λ e. inr (second .0 e), λ any. ⊎-elim (λ a. absurd (true≢false (sym (first .1 a)))) (second .1) any)
 
 -- both of two tests hold
-both-exactly : {A B : Type 0} (s t : Bool) → (s ≡ true) ↔ A → (t ≡ true) ↔ B → ((s && t) ≡ true) ↔ (A × B)
+pub both-exactly : {A B : Type 0} (s t : Bool) → (s ≡ true) ↔ A → (t ≡ true) ↔ B → ((s && t) ≡ true) ↔ (A × B)
 both-exactly s t first second = (
   λ e. (let both = both-true s t e in (first .0 (both .0), second .0 (both .1))),
   λ all. rw (first .1 (all .0)) (second .1 (all .1)),
@@ -66,7 +66,7 @@ clock-exactly mode a =
     (either-exactly (ltb 59 (a .minutes)) _ (above 59 (a .minutes))
     (either-exactly (ltb 59 (a .seconds)) _ (above 59 (a .seconds)) (at-least (framesInSecond (rateAt mode)) (a .frames .0))))
 
-skipped-exactly : (a : Address) → (skipped a ≡ true) ↔ Skipped a
+pub skipped-exactly : (a : Address) → (skipped a ≡ true) ↔ Skipped a
 skipped-exactly a =
     both-exactly (ltb (a .frames .0) 2) _ (above (a .frames .0) 2)
     (both-exactly (eqb (a .seconds) 0) _ (equals (a .seconds) 0) (differs (a .minutes % 10) 0))
@@ -87,7 +87,7 @@ units-exactly info =
     (either-exactly (ltb 9 (bits 16 19 info)) _ (above 9 (bits 16 19 info))
     (either-exactly (ltb 9 (bits 32 35 info)) (ltb 9 (bits 48 51 info)) (above 9 (bits 32 35 info)) (above 9 (bits 48 51 info))))
 
-yes-exactly : (f : Flag) → (isYes f ≡ true) ↔ (f ≡ Yes)
+pub yes-exactly : (f : Flag) → (isYes f ≡ true) ↔ (f ≡ Yes)
 yes-exactly No = (λ e. absurd (true≢false (sym e)), λ e. absurd (no-yes e))
   where
     no-yes : No ≡ Yes → ⊥
@@ -138,7 +138,7 @@ colour-back mode colour (inl e, set) = rw (e, set)
 colour-back mode colour (inr e, set) = rw (e, set)
 
 module _ (mode : ℕ) (few : mode ≤ 10) where
-  drops-exactly : (mayDrop (rateAt mode) ≡ true) ↔ Drops mode
+  pub drops-exactly : (mayDrop (rateAt mode) ≡ true) ↔ Drops mode
   drops-exactly = (drops-there mode few, drops-back mode)
 
   -- where no drop may be asked for
