@@ -1,4 +1,4 @@
-/* The library's calls in plain C: its algorithms, step for step, as C is commonly written. Helpers that judge give 0 for what is sound, else the
+/* The library's calls in plain C: its algorithms, step for step, as C is commonly written. Functions that judge give 0 for what is sound, else the
  * number of the refusal. */
 #include "plain.h"
 

@@ -9,8 +9,9 @@
  *   - a null pointer is lent only with length 0;
  *   - the machine is an x86-64 with its C convention (System V), and structs are laid out by it: the sizes and places at the end of this file.
  *
- * Bits stand one to an element, 0 or 1; words of a packet ten bits to an element. Flags are bytes, 0 for no and 1 for yes. Compare structs field by field and not byte by byte: what
- * stands in the gaps of those that have gaps is not determined. */
+ * Bits stand one to an element, 0 or 1, in the order in which they run, bit 0 of a word or a line first; the words of a packet ten bits to an element, from the first of its opening words
+ * (000 hex) to its checksum. Flags are bytes, 0 for no and 1 for yes. Compare structs field by field and not byte by byte: what stands in the gaps of those that have gaps is not
+ * determined. */
 #ifndef SHONDUXIHI_H
 #define SHONDUXIHI_H
 
@@ -90,7 +91,8 @@ typedef struct shx_picture_t {
     uint8_t place;
 } shx_picture_t;
 
-/* What a word, a line or a packet carries: a picture, six flags and the binary groups 1 to 8. */
+/* What a word, a line or a packet carries: a picture, six flags and the binary groups 1 to 8. `mark` is the field mark: in modes 3 to 5, on a line and in a packet of type 1 or 2, it has to be
+ * the place. */
 typedef struct shx_record_t {
     uint8_t hours, minutes, seconds, frames;
     uint8_t drop, colour, mark, bgf0, bgf1, bgf2;
@@ -98,7 +100,8 @@ typedef struct shx_record_t {
     uint8_t place;
 } shx_record_t;
 
-/* What a packet carries: the record, the payload type and the second byte. */
+/* What a packet carries: the record, the payload type and the second byte. The type is 0 (LTC), 1 or 2 (VITC) in modes 0 to 5, and 80 to 8F hex in modes 6 to 10. The second byte has the line
+ * for types 1 and 2 on 525 and 625 lines, and is one of SHX_SECOND_.. in modes 6 to 10. */
 typedef struct shx_contents_t {
     shx_record_t record;
     uint8_t payload_type, second;
@@ -216,12 +219,12 @@ shx_reader_t shx_fresh(uint8_t mode, uint8_t ways);
  * bit has been taken. */
 shx_step_answer_t shx_step(shx_reader_t reader, uint8_t element);
 
-/* Bits of a run up to the first answer, the limit, an element that is no bit, or the end; `taken` is how many of them it took, and the host goes on behind them. Before an element that is no
- * bit, with limit left, it answers 3: the bits before it have been taken and it has not, so that the host has to pass it. A reader that is turned away itself (2, 13, or 3 for its ways)
- * comes back as it was, with `taken` 0, even at limit 0 or with an empty run. */
+/* Bits of a run up to the first answer, the limit (at most so many are taken), an element that is no bit, or the end; `taken` is how many of them it took, and the host goes on behind
+ * them. Before an element that is no bit, with limit left, it answers 3: the bits before it have been taken and it has not, so that the host has to pass it. A reader that is turned away
+ * itself (2, 13, or 3 for its ways) comes back as it was, with `taken` 0, even at limit 0 or with an empty run. */
 shx_block_answer_t shx_block(shx_reader_t reader, size_t limit, const uint8_t *run, size_t length);
 
-/* ---- Sizes and places, in bytes, as they must be for the library. Nothing proves a header: examples/host.c compares this table with what the compiler makes of the structs above.
+/* ---- Sizes and places, in bytes, as they must be for the library. Nothing proves a header: examples/host.c compares a copy of this table with what the compiler makes of the structs above.
  *
  *   struct                  size   places
  *   shx_picture_t              5   hours 0, minutes 1, seconds 2, frames 3, place 4
