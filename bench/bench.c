@@ -23,7 +23,7 @@ enum { PAIRS = 31, MODE = SHX_MODE_30, DROP = 1, BITS = ITEMS * SHX_LTC_BITS };
 
 #define BATCH_SECONDS 0.005
 
-/* ---- The two sides. */
+/* ---- The two sides. Where bench/run is given an earlier archive of the library, that has taken the names of the plain calls. */
 
 struct calls {
     shx_number_answer_t (*number)(uint8_t, uint8_t, shx_picture_t);
@@ -51,6 +51,8 @@ static const struct calls PLAIN = {
     plain_number,    plain_number_in_second, plain_picture,  plain_distance,  plain_add,   plain_ltc_read, plain_ltc_write,
     plain_vitc_read, plain_vitc_write,       plain_atc_read, plain_atc_write, plain_fresh, plain_step,     plain_block,
 };
+
+static const struct calls BY_EIGHTS = {.vitc_read = plain_vitc_read_by_eights};
 
 /* ---- What both sides are given. */
 
@@ -388,7 +390,8 @@ struct row {
     const char *name, *unit;
     size_t units;   /* in a pass */
     pass_t *ours;
-    pass_t *theirs; /* NULL for the same pass with the plain calls */
+    pass_t *theirs;            /* NULL for the same pass with other calls */
+    const struct calls *other; /* NULL for the plain ones */
 };
 
 static const struct row ROWS[] = {
@@ -400,6 +403,7 @@ static const struct row ROWS[] = {
     {"ltc read", "call", ITEMS, ltc_read, NULL},
     {"ltc write", "call", ITEMS, ltc_write, NULL},
     {"vitc read", "call", ITEMS, vitc_read, NULL},
+    {"vitc read, C by eights", "call", ITEMS, vitc_read, NULL, &BY_EIGHTS},
     {"vitc write", "call", ITEMS, vitc_write, NULL},
     {"atc read", "call", ITEMS, atc_read, NULL},
     {"atc write", "call", ITEMS, atc_write, NULL},
@@ -427,7 +431,7 @@ static uint64_t pass_ours(const struct row *row)
 
 static uint64_t pass_theirs(const struct row *row)
 {
-    return row->theirs ? row->theirs(NULL) : row->ours(&PLAIN);
+    return row->theirs ? row->theirs(NULL) : row->ours(row->other ? row->other : &PLAIN);
 }
 
 typedef uint64_t side_t(const struct row *row);
@@ -480,19 +484,21 @@ static struct middle middle_of(double *values)
 
 static void measure(const struct row *row)
 {
-    double ratios[PAIRS], nanoseconds[PAIRS];
+    double ratios[PAIRS], own[PAIRS], others[PAIRS];
     size_t passes = passes_for(row);
+    double scale = 1e9 / ((double)passes * (double)row->units);
     for (size_t i = 0; i < PAIRS; i++) {
         /* turn and turn about, so that neither side always comes after the other */
         double early = i % 2 ? timed(pass_theirs, row, passes) : 0;
         double ours = timed(pass_ours, row, passes);
         double theirs = i % 2 ? early : timed(pass_theirs, row, passes);
         ratios[i] = ours / theirs;
-        nanoseconds[i] = 1e9 * ours / ((double)passes * (double)row->units);
+        own[i] = scale * ours;
+        others[i] = scale * theirs;
     }
     struct middle ratio = middle_of(ratios);
-    struct middle absolute = middle_of(nanoseconds);
-    printf("%-34s %6.2f   %5.2f to %5.2f %9.2f ns/%s\n", row->name, ratio.median, ratio.low, ratio.high, absolute.median, row->unit);
+    printf("%-34s %6.2f   %5.2f to %5.2f %9.2f %9.2f ns/%s\n", row->name, ratio.median, ratio.low, ratio.high, middle_of(own).median,
+           middle_of(others).median, row->unit);
     fflush(stdout);
 }
 
@@ -501,14 +507,14 @@ static void compare_answers(void)
     for (size_t i = 0; i < ROW_COUNT; i++) {
         if (ROWS[i].theirs == NULL && pass_ours(&ROWS[i]) != pass_theirs(&ROWS[i])) {
             fprintf(stderr, "bench: %s: ", ROWS[i].name);
-            give_up("library and plain C answer differently");
+            give_up("the two sides answer differently");
         }
     }
 }
 
 static void print_table(void)
 {
-    printf("%-34s %6s   %14s %12s\n", "row", "ratio", "its quartiles", "library");
+    printf("%-34s %6s   %14s %9s %9s\n", "row", "ratio", "its quartiles", "library", "other");
     for (size_t i = 0; i < ROW_COUNT; i++) {
         measure(&ROWS[i]);
     }

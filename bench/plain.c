@@ -3,6 +3,7 @@
 #include "plain.h"
 
 #include <stdbool.h>
+#include <string.h>
 
 /* ---- Modes. */
 
@@ -577,14 +578,11 @@ static inline bool has_wrong_crc(const uint8_t *line)
     return false;
 }
 
-static inline uint8_t judge_line(uint8_t mode, const uint8_t *line, size_t length)
+typedef uint8_t form_t(const uint8_t *line);
+
+/* What is wrong with the form of 90 elements, or 0: a pass for each remainder. */
+static inline uint8_t form_by_remainders(const uint8_t *line)
 {
-    if (length != SHX_VITC_BITS) {
-        return SHX_WRONG_LENGTH;
-    }
-    if (is_unknown(mode)) {
-        return SHX_UNKNOWN_MODE;
-    }
     if (has_high_element(line)) {
         return SHX_ELEMENT_TOO_HIGH;
     }
@@ -592,6 +590,36 @@ static inline uint8_t judge_line(uint8_t mode, const uint8_t *line, size_t lengt
         return SHX_WRONG_SYNC;
     }
     return has_wrong_crc(line) ? SHX_WRONG_CHECK : 0;
+}
+
+/* The same, eight elements at once: bit 0 of each eighth part of the sums belongs to one remainder. */
+static inline uint8_t form_by_eights(const uint8_t *line)
+{
+    uint64_t all = 0, odd = 0;
+    for (size_t at = 0; at < SHX_VITC_BITS; at += 8) {
+        uint64_t eight = 0;
+        memcpy(&eight, line + at, at + 8 <= SHX_VITC_BITS ? 8 : SHX_VITC_BITS % 8);
+        all |= eight;
+        odd ^= eight;
+    }
+    if (all & UINT64_C(0xfefefefefefefefe)) {
+        return SHX_ELEMENT_TOO_HIGH;
+    }
+    if (has_wrong_pair(line)) {
+        return SHX_WRONG_SYNC;
+    }
+    return odd != 0 ? SHX_WRONG_CHECK : 0;
+}
+
+static inline uint8_t judge_line(uint8_t mode, const uint8_t *line, size_t length, form_t *form)
+{
+    if (length != SHX_VITC_BITS) {
+        return SHX_WRONG_LENGTH;
+    }
+    if (is_unknown(mode)) {
+        return SHX_UNKNOWN_MODE;
+    }
+    return form(line);
 }
 
 static inline uint64_t info_on_line(const uint8_t *line)
@@ -603,10 +631,10 @@ static inline uint64_t info_on_line(const uint8_t *line)
     return info;
 }
 
-shx_line_answer_t plain_vitc_read(uint8_t mode, const uint8_t *line, size_t length)
+static inline shx_line_answer_t read_line(uint8_t mode, const uint8_t *line, size_t length, form_t *form)
 {
     shx_record_t record;
-    shx_line_answer_t answer = {.code = judge_line(mode, line, length)};
+    shx_line_answer_t answer = {.code = judge_line(mode, line, length, form)};
     if (answer.code != 0) {
         return answer;
     }
@@ -616,6 +644,16 @@ shx_line_answer_t plain_vitc_read(uint8_t mode, const uint8_t *line, size_t leng
         answer.record = record;
     }
     return answer;
+}
+
+shx_line_answer_t plain_vitc_read(uint8_t mode, const uint8_t *line, size_t length)
+{
+    return read_line(mode, line, length, form_by_remainders);
+}
+
+shx_line_answer_t plain_vitc_read_by_eights(uint8_t mode, const uint8_t *line, size_t length)
+{
+    return read_line(mode, line, length, form_by_eights);
 }
 
 /* Eight groups of ten, the ninth pair, and the CRC of those 82. */

@@ -1,8 +1,8 @@
 -- The ones of a remainder by 8: places of other remainders do not count, and every eighth does.
 -- Assumes nothing.
-use Prim.Native.Nat.{ℕ, zero, suc, _+_, _%_, _<_}
+use Prim.Native.Nat.{ℕ, zero, suc, _+_, _%_, _≤_, _<_}
 use mathlib.Core.Path.{_≡_, refl, sym}
-use mathlib.Core.Bool.{false, cond}
+use mathlib.Core.Bool.{Bool, true, false, cond}
 use mathlib.Core.List.{List, [], _∷_, _++_}
 use native.Mathlib.Omega.{arith}
 use native.Mathlib.Nat.{zero-add, add-zero}
@@ -14,6 +14,13 @@ use Rattle.interval.specs.Line.{onesFrom}
 -- 1 for a one, and 0 for any other element
 abbrev pub oneIn : ℕ → ℕ
 oneIn element = cond (eqb element 1) 1 0
+
+pub one-small : (element : ℕ) → oneIn element ≤ 1
+one-small element = go (eqb element 1)
+  where
+    go : (t : Bool) → cond t 1 0 ≤ 1
+    go true = omega arith
+    go false = omega arith
 
 module _ (remainder : ℕ) where
   -- the counts of two runs side by side

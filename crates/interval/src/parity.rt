@@ -1,9 +1,11 @@
 // The CRC's eight counts, each as one bit.
-ghost use Prim.Native.Nat.{_%_};
+ghost use Prim.Native.Nat.{_+_, _%_};
 ghost use mathlib.Core.Path.{_≡_};
 ghost use mathlib.Core.Bool.{cond};
 ghost use lib.Dec.{eqb};
-ghost use Rattle.interval.specs.Line.{onesAt};
+ghost use lib.ListN.{length, getD};
+ghost use Rattle.bits.specs.Bits.{AllBits};
+ghost use Rattle.interval.specs.Line.{each, onesAt};
 
 // 1 for a one, and 0 for any other element.
 fn one_in(element: u8) -> u8
@@ -30,4 +32,35 @@ pub fn parity(place: usize, run: &[u8]) -> u8
         at += 8;
     }
     odd
+}
+
+// The ones of a part whose first place has remainder 0 come to the eight counts, each to that of its remainder. Of a count there is kept
+// whether it is odd: 1 for odd, 0 for even.
+fn add_ones(part: &[u8], odds: &mut [u8; 8])
+    requires { ⌜ (length (now odds) ≡ 8) × AllBits (now odds) ⌝ }
+    ensures { λ _. ⌜ now (odds .exit) ≡ each 8 (λ remainder. (getD (now (odds .entry)) remainder 0 + onesAt remainder (now (part .entry))) % 2) ⌝ }
+{
+    let mut place: usize = 0;
+    while place < part.len() {
+        let one = one_in(part[place]);
+        let remainder = place % 8;
+        let odd = odds[remainder];
+        odds[remainder] = (odd + one) % 2;
+        place += 1;
+    }
+}
+
+// All eight counts of a run in one pass: eight places at a time, and at the end those that are left. The eight go side by side.
+pub fn count_ones(run: &[u8], odds: &mut [u8; 8])
+    ensures { λ _. ⌜ now (odds .exit) ≡ each 8 (λ remainder. onesAt remainder (now (run .entry)) % 2) ⌝ }
+{
+    *odds = [0u8; 8];
+    let mut at: usize = 0;
+    while 8 <= run.len() - at {
+        let next = at + 8;
+        add_ones(&run[at..next], odds);
+        at = next;
+    }
+    let end = run.len();
+    add_ones(&run[at..end], odds);
 }

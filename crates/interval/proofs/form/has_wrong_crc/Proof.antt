@@ -1,52 +1,42 @@
--- `interval::form::has_wrong_crc` meets its contract. At each turn none of the counts before the remainder's is odd.
+-- `interval::form::has_wrong_crc` meets its contract. At each turn it is told whether one of the counts before the remainder's is odd.
 -- Assumes nothing.
-use mathlib.Core.Path.{_≡_, sym, ap, _∙_}
+use mathlib.Core.Path.{_≡_}
 use Prim.Native.Nat.{ℕ, _+_, _-_, _%_, _≤_, _<_}
-use mathlib.Core.Bool.{true, false}
-use native.Mathlib.Nat.{mod-eq-of-lt}
+use mathlib.Core.Bool.{Bool, not, _||_}
 use native.Mathlib.Omega.{arith}
 use mathlib.Core.List.{List}
+use lib.Dec.{eqb}
+use lib.ListN.{getD}
 use borrow.Author.Needs.{needs}
-use borrow.Author.Tests.{eq-eqb, ne-eqb}
 use Rattle.interval.specs.Line.{onesAt, oddAt, wrongCrc}
-use Rattle.interval.specs.Loops.{Testing}
-use Rattle.interval.proofs.Lists.{some-of}
-use Rattle.interval.proofs.Turns.{test-begins, test-turns}
+use Rattle.interval.proofs.Lists.{getD-each}
+use Rattle.interval.proofs.Pass.{oddsOf}
+use Rattle.interval.proofs.Unstopped.{Tests, tests-begin, tests-turn, tests-end}
 use Rattle.interval.proofs.form.has_wrong_crc.Statement.{statement}
 use Rattle.interval.proofs.form.has_wrong_crc.Tie as tie
 
-module _ (line : List ℕ) (remainder odd : ℕ) (t : Testing 8 (oddAt line) remainder) (low : remainder < 8)
-    (told : odd ≡ onesAt (remainder % 8) line % 2) where
-  counted : odd ≡ onesAt remainder line % 2
-  counted = told ∙ ap (λ (n : ℕ). onesAt n line % 2) (mod-eq-of-lt low)
+module _ (line odds : List ℕ) (wrong : Bool) (remainder : ℕ) (t : Tests 8 (oddAt line) wrong remainder) where
+  turned : odds ≡ oddsOf line → remainder < 8 → Tests 8 (oddAt line) (wrong || not (eqb (getD odds remainder 0) 0)) (remainder + 1)
+  turned told low = rw (told, getD-each 8 (λ n. onesAt n line % 2) remainder low) (tests-turn 8 (oddAt line) wrong remainder t low)
 
-  wrong : (odd ≡ 0 → ⊥) → true ≡ wrongCrc line
+  done : 8 ≤ remainder → wrong ≡ wrongCrc line
   unfolding wrongCrc
-  wrong e = sym (some-of (oddAt line) 8 remainder low (rw (← counted, ne-eqb odd 0 e)))
-
-  turned : odd ≡ 0 → Testing 8 (oddAt line) (remainder + 1)
-  turned e = test-turns 8 (oddAt line) remainder t low (rw (← counted, eq-eqb odd 0 e))
-
-done : (line : List ℕ) (remainder : ℕ) → Testing 8 (oddAt line) remainder → 8 ≤ remainder → false ≡ wrongCrc line
-unfolding wrongCrc
-done line remainder t h =
-    let all : remainder ≡ 8 = omega (arith, t .within) in
-    sym ((rw all at t) .none)
+  done h = tests-end 8 (oddAt line) wrong remainder t h
 
 abbrev Inv-loop : tie.InvT-loop
-Inv-loop line remainder₀ remainder = Testing 8 (oddAt line) remainder
+Inv-loop line odds wrong₀ remainder₀ wrong remainder = Tests 8 (oddAt line) wrong remainder
 
 abbrev μ-loop : tie.MeasureT-loop
-μ-loop line remainder₀ remainder = 8 - remainder
+μ-loop line odds wrong₀ remainder₀ wrong remainder = 8 - remainder
+
+count-ones-requires : tie.Need-count-ones-requires Inv-loop μ-loop
+count-ones-requires c κs = search needs
 
 loop-holds : tie.Need-loop-holds Inv-loop μ-loop
-loop-holds c = test-begins 8 _
+loop-holds c = tests-begin 8 _
 
-parity-requires : tie.Need-parity-requires Inv-loop μ-loop
-parity-requires c κs = search needs
-
-returns : tie.Need-returns Inv-loop μ-loop
-returns c = let low : c .before .before .before .loop .remainder < 8 = omega arith in search wrong
+array-read-odd : tie.Need-array-read-odd Inv-loop μ-loop
+array-read-odd c = omega arith
 
 add-remainder : tie.Need-add-remainder Inv-loop μ-loop
 add-remainder c = omega arith
@@ -55,10 +45,10 @@ loop-less : tie.Need-loop-less Inv-loop μ-loop
 loop-less c = omega arith
 
 loop-again : tie.Need-loop-again Inv-loop μ-loop
-loop-again c = let low : c .before .before .before .loop .remainder < 8 = omega arith in search turned
+loop-again c = search turned
 
-returns-2 : tie.Need-returns-2 Inv-loop μ-loop
-returns-2 c = search done
+returns : tie.Need-returns Inv-loop μ-loop
+returns c = search done
 
 pub has-wrong-crc-spec : {M : Type 1} → statement M
 has-wrong-crc-spec =
@@ -66,10 +56,10 @@ has-wrong-crc-spec =
     (tie.spec
     Inv-loop
     μ-loop
+    count-ones-requires
     loop-holds
-    parity-requires
-    returns
+    array-read-odd
     add-remainder
     loop-less
     loop-again
-    returns-2)
+    returns)

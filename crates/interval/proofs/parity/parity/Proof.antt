@@ -2,15 +2,13 @@
 -- Assumes nothing.
 use Prim.Native.Nat.{ℕ, _+_, _-_, _%_, _≤_, _<_}
 use mathlib.Core.Path.{_≡_}
-use mathlib.Core.Bool.{Bool, true, false, cond}
 use mathlib.Core.List.{List}
 use native.Mathlib.Omega.{arith}
-use lib.Dec.{eqb}
 use lib.ListN.{length, getD}
 use borrow.Author.Needs.{needs}
 use Rattle.interval.specs.Line.{onesAt}
 use Rattle.interval.specs.Loops.{Striding}
-use Rattle.interval.proofs.Stride.{oneIn}
+use Rattle.interval.proofs.Stride.{oneIn, one-small}
 use Rattle.interval.proofs.Turns.{stride-begins, stride-turns, stride-ends}
 use Rattle.interval.proofs.parity.parity.Statement.{statement}
 use Rattle.interval.proofs.parity.parity.Tie as tie
@@ -26,13 +24,6 @@ module _
 
   last : length run - at ≤ 8 → (odd + one) % 2 ≡ onesAt remainder run % 2
   last few = stride-ends remainder run ((odd + one) % 2) (at + 8) turned (omega arith)
-
-one-small : (element : ℕ) → oneIn element ≤ 1
-one-small element = go (eqb element 1)
-  where
-    go : (t : Bool) → cond t 1 0 ≤ 1
-    go true = omega arith
-    go false = omega arith
 
 abbrev Inv-loop : tie.InvT-loop
 Inv-loop place run odd₀ at₀ odd at = Striding (place % 8) run odd at
