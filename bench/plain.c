@@ -592,7 +592,7 @@ static inline uint8_t form_by_remainders(const uint8_t *line)
     return has_wrong_crc(line) ? SHX_WRONG_CHECK : 0;
 }
 
-/* The same, eight elements at once: bit 0 of each eighth part of the sums belongs to one remainder. */
+/* The same, eight elements at once: each byte of the two sums belongs to one remainder. */
 static inline uint8_t form_by_eights(const uint8_t *line)
 {
     uint64_t all = 0, odd = 0;

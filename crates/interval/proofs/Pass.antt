@@ -24,7 +24,7 @@ abbrev pub added : List ℕ → List ℕ → List ℕ
 added before part = each 8 (λ remainder. (getD before remainder 0 + onesAt remainder part) % 2)
 
 module _ (remainder : ℕ) where
-  -- a place eight further on, or sixteen, counts to the same remainder
+  -- from two places of one remainder by 8 the same is counted
   pub ones-alike : (xs : List ℕ) (place other : ℕ) → place % 8 ≡ other % 8 → onesFrom remainder place xs ≡ onesFrom remainder other xs
   unfolding onesFrom
   ones-alike [] place other same = refl

@@ -1,5 +1,5 @@
 // The form of a line, whatever it carries. No pass stops at what it finds or waits for what another found: a sound line has to be looked at
-// whole, and passes that always go to the end are quicker.
+// whole, and is so in less time.
 ghost use mathlib.Core.Path.{_≡_};
 ghost use lib.ListN.{length};
 ghost use Rattle.refusals.specs.Answer.{verdictOf};

@@ -34,8 +34,8 @@ pub fn parity(place: usize, run: &[u8]) -> u8
     odd
 }
 
-// The ones of a part whose first place has remainder 0 come to the eight counts, each to that of its remainder. Of a count there is kept
-// whether it is odd: 1 for odd, 0 for even.
+// Adds the ones of a part to the eight counts, each to that of the remainder of its place in the part by 8. Of a count only its last bit is
+// kept: 1 for odd, 0 for even.
 fn add_ones(part: &[u8], odds: &mut [u8; 8])
     requires { ⌜ (length (now odds) ≡ 8) × AllBits (now odds) ⌝ }
     ensures { λ _. ⌜ now (odds .exit) ≡ each 8 (λ remainder. (getD (now (odds .entry)) remainder 0 + onesAt remainder (now (part .entry))) % 2) ⌝ }
@@ -50,7 +50,8 @@ fn add_ones(part: &[u8], odds: &mut [u8; 8])
     }
 }
 
-// All eight counts of a run in one pass: eight places at a time, and at the end those that are left. The eight go side by side.
+// All eight counts of a run in one pass: by parts of eight places, and at the end those that are left. Of a part of eight the compiler makes
+// one step for all eight; of a whole run it does not.
 pub fn count_ones(run: &[u8], odds: &mut [u8; 8])
     ensures { λ _. ⌜ now (odds .exit) ≡ each 8 (λ remainder. onesAt remainder (now (run .entry)) % 2) ⌝ }
 {

@@ -1,4 +1,5 @@
--- `interval::form::has_wrong_crc` meets its contract. At each turn it is told whether one of the counts before the remainder's is odd.
+-- `interval::form::has_wrong_crc` meets its contract. At each turn an odd count was found, or none of those before the
+-- remainder's is odd.
 -- Assumes nothing.
 use mathlib.Core.Path.{_≡_}
 use Prim.Native.Nat.{ℕ, _+_, _-_, _%_, _≤_, _<_}

@@ -1,4 +1,5 @@
--- `interval::form::has_wrong_pair` meets its contract. At each turn it is told whether one of the pairs before the g-th is wrong.
+-- `interval::form::has_wrong_pair` meets its contract. At each turn a wrong pair was found, or none of those before the
+-- g-th is wrong.
 -- Assumes nothing.
 use mathlib.Core.Path.{_≡_}
 use Prim.Native.Nat.{ℕ, _+_, _-_, _≤_, _<_}

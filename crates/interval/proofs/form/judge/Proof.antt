@@ -1,4 +1,5 @@
--- `interval::form::judge` meets its contract: the tests that led to each `return` are the rows of the list up to the one that applies.
+-- `interval::form::judge` meets its contract: the tests that led to each `return` are the rows of the list up to the one that applies, and a
+-- line is sound where none of the three passes found anything.
 -- Assumes nothing.
 use Prim.Native.Nat.{ℕ}
 use mathlib.Core.Path.{_≡_}
