@@ -23,7 +23,8 @@ enum { PAIRS = 31, MODE = SHX_MODE_30, DROP = 1, BITS = ITEMS * SHX_LTC_BITS };
 
 #define BATCH_SECONDS 0.005
 
-/* ---- The two sides. Where bench/run is given an earlier archive of the library, that has the names of the plain calls, but for the last. */
+/* ---- The two sides. Where bench/run is given an earlier archive of the library, that has the names of the plain calls, but for
+ * plain_vitc_read_by_eights, and makes the material too. */
 
 struct calls {
     shx_number_answer_t (*number)(uint8_t, uint8_t, shx_picture_t);

@@ -27,7 +27,7 @@ uint8_t plain_ltc_write(uint8_t mode, shx_record_t record, uint8_t make, size_t 
 
 shx_line_answer_t plain_vitc_read(uint8_t mode, const uint8_t *line, size_t length);
 
-/* plain_vitc_read once more, with the form of a line looked at in one pass of eight elements at once, and not element by element. */
+/* plain_vitc_read once more: elements above 1 and the CRC in one pass, eight elements at once; then the pairs. */
 shx_line_answer_t plain_vitc_read_by_eights(uint8_t mode, const uint8_t *line, size_t length);
 
 uint8_t plain_vitc_write(uint8_t mode, shx_record_t record, size_t start, uint8_t *run, size_t length);
