@@ -5,6 +5,8 @@
 // numbers    numbers in decimal
 // records    fields that are bytes, a picture, a record, and what was found beside it
 // elements   the elements of a run
+#![tactic(auto)]
+
 mod elements;
 mod numbers;
 mod records;

@@ -5,6 +5,8 @@
 // payload    the payload types of each family, what a type and a second byte are turned away with, and the record in the 64 bits
 // reading    from 23 words to record, type and second byte
 // writing    from record, type and second byte to 23 words in the middle of a lent run
+#![tactic(auto)]
+
 mod lines;
 mod payload;
 mod reading;

@@ -1,7 +1,7 @@
 use record::Record;
 
 // The interface that a packet comes from or goes to, as the caller names it: 525 or 625 lines, or high definition.
-#[derive(Drop)]
+#[derive(Clone, Copy)]
 pub enum Interface {
     Lines525,
     Lines625,
@@ -9,14 +9,14 @@ pub enum Interface {
 }
 
 // What a packet carries.
-#[derive(Drop)]
+#[derive(Clone, Copy)]
 pub struct Contents {
     pub record: Record,
     pub payload_type: u8,
     pub second: u8,
 }
 
-#[derive(Drop)]
+#[derive(Clone, Copy)]
 pub enum Packet {
     Holds(Contents),
     Refused(u8),

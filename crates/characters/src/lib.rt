@@ -2,6 +2,8 @@
 //
 // types      what sifting answers
 // sifting    the bits of a run of characters
+#![tactic(auto)]
+
 mod sifting;
 mod types;
 

@@ -1,5 +1,5 @@
 // How many bits now stand at the start of the run, and whether no character in it ends the reading.
-#[derive(Drop)]
+#[derive(Clone, Copy)]
 pub struct Sifted {
     pub bits: usize,
     pub more: bool,

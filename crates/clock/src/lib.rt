@@ -4,6 +4,8 @@
 // counting   the arithmetic that takes an address to its number
 // numbers    address to number; the distance from one address to another
 // addresses  number to address; an address from clock fields; an address plus a signed count
+#![tactic(auto)]
+
 mod addresses;
 mod counting;
 mod numbers;

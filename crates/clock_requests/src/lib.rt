@@ -4,6 +4,8 @@
 // types      what is asked for, and what is told
 // answering  which request a line is, and its answer
 // calling    the calls of the clock by mode, and the constructors of its kinds
+#![tactic(auto)]
+
 mod answering;
 mod calling;
 mod types;

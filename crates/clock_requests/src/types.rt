@@ -1,7 +1,7 @@
 // What is asked for, and what is told.
 use pictures::Picture;
 
-#[derive(Drop)]
+#[derive(Clone, Copy)]
 pub enum Call {
     Number,
     InSecond,
@@ -17,14 +17,14 @@ pub enum Call {
     HighFields,
 }
 
-#[derive(Drop)]
+#[derive(Clone, Copy)]
 pub enum Request {
     For(Call),
     Another,
 }
 
 // What a call told, whichever call it was.
-#[derive(Drop)]
+#[derive(Clone, Copy)]
 pub enum Told {
     Number(u64),
     Frames(i32),

@@ -29,3 +29,4 @@
 // proofs/LineNumbers the line numbers that a packet may not claim are those that the printed table has no entry for
 //
 // What else demand 1 asks for is in the promises of the calls themselves: docs/PROMISES.md says where.
+#![tactic(auto)]

@@ -14,3 +14,4 @@
 // proofs/Turns         a run that turns
 // proofs/Tight         after fewer bits it could not be demanded
 // proofs/Impostors     one that never reports, refuses each word, reports one fixed address or gives something else for some words fails it
+#![tactic(auto)]

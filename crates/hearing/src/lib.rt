@@ -3,6 +3,8 @@
 // types      what is heard, and which way it runs
 // turning    64 bits in the opposite order
 // windows    what is heard in a register
+#![tactic(auto)]
+
 mod turning;
 mod types;
 mod windows;

@@ -5,6 +5,8 @@
 // counting   the number of a picture, its number within its second, the picture of a number, distances and sums
 // carriers   linear words, vertical interval lines and ancillary packets
 // reading    a reader, fed bit by bit or in blocks
+#![tactic(auto)]
+
 mod carriers;
 mod counting;
 mod reading;

@@ -3,6 +3,8 @@
 // parity     the CRC's eight counts, each as one bit
 // form       whether elements have the form of a line
 // placing    the line of 64 information bits, in the middle of a lent run
+#![tactic(auto)]
+
 mod form;
 mod parity;
 mod placing;

@@ -9,16 +9,16 @@ ghost use Rattle.clock.specs.Calls.{address_of, fields_of};
 use clock::{DayFrame, Placed, address_from, address_of};
 use rates::{Flag, Rate, SecondFrame};
 
-#[derive(Drop)]
+#[derive(Clone, Copy)]
 pub struct Frames24;
 
-#[derive(Drop)]
+#[derive(Clone, Copy)]
 pub struct Frames25;
 
-#[derive(Drop)]
+#[derive(Clone, Copy)]
 pub struct Frames30;
 
-#[derive(Drop)]
+#[derive(Clone, Copy)]
 pub struct Frames30Drop;
 
 impl Frames24 {

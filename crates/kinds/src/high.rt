@@ -13,22 +13,22 @@ use clock::DayFrame;
 use pictures::{Pictured, picture_from, picture_of};
 use rates::{Flag, Rate, SecondFrame};
 
-#[derive(Drop)]
+#[derive(Clone, Copy)]
 pub struct Frames72;
 
-#[derive(Drop)]
+#[derive(Clone, Copy)]
 pub struct Frames96;
 
-#[derive(Drop)]
+#[derive(Clone, Copy)]
 pub struct Frames100;
 
-#[derive(Drop)]
+#[derive(Clone, Copy)]
 pub struct Frames120As24x5;
 
-#[derive(Drop)]
+#[derive(Clone, Copy)]
 pub struct Frames120As30x4;
 
-#[derive(Drop)]
+#[derive(Clone, Copy)]
 pub struct Frames120Drop;
 
 impl Frames72 {

@@ -4,6 +4,8 @@
 // pairs      the kinds of pairs, each with its constants and its two constructors of a picture
 // high       the kinds of high frame rates, likewise
 // constants  what holds the constants to their numbers
+#![tactic(auto)]
+
 mod constants;
 mod frames;
 mod high;

@@ -16,16 +16,16 @@ use rates::{Flag, Rate, SecondFrame};
 // The place of the last picture that shares an address.
 const LAST: u8 = 1;
 
-#[derive(Drop)]
+#[derive(Clone, Copy)]
 pub struct Frames48;
 
-#[derive(Drop)]
+#[derive(Clone, Copy)]
 pub struct Frames50;
 
-#[derive(Drop)]
+#[derive(Clone, Copy)]
 pub struct Frames60;
 
-#[derive(Drop)]
+#[derive(Clone, Copy)]
 pub struct Frames60Drop;
 
 fn pair_of(rate: Rate, drop: Flag, number: DayFrame) -> Pictured

@@ -6,6 +6,8 @@
 // counting   pictures and their numbers
 // packing    64 information bits and a record
 // showing    which picture of an address is shown, read or written
+#![tactic(auto)]
+
 mod counting;
 mod packing;
 mod showing;

@@ -2,6 +2,8 @@
 //
 // form       whether words have the form of a packet
 // placing    the words of 64 information bits, a type and a second byte, in a mode, in the middle of a lent run
+#![tactic(auto)]
+
 mod form;
 mod placing;
 

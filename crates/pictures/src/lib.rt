@@ -6,6 +6,8 @@
 // judging    what is turned away, for its address or for its place
 // numbers    picture to number, of the day and within its second; the distance from one picture to another
 // finding    number to picture; a picture from clock fields and a place; a picture plus a signed count
+#![tactic(auto)]
+
 mod finding;
 mod judging;
 mod numbers;

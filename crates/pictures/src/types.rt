@@ -1,7 +1,7 @@
 use rates::Address;
 
 // A picture: the address that it shares with others, and its place among them, 0 the first.
-#[derive(Drop)]
+#[derive(Clone, Copy)]
 pub struct Picture {
     pub address: Address,
     pub place: u8,
@@ -9,16 +9,16 @@ pub struct Picture {
 
 // The number of a picture within its second, which ends at 59 where two share an address at 30, and at 119 at 120. A kind of its own, so that it is mixed neither with a number of the day
 // nor with the frames of an address, which end at 29.
-#[derive(Drop)]
+#[derive(Clone, Copy)]
 pub struct PictureInSecond(pub u16);
 
-#[derive(Drop)]
+#[derive(Clone, Copy)]
 pub enum InSecond {
     Number(PictureInSecond),
     Refused(u8),
 }
 
-#[derive(Drop)]
+#[derive(Clone, Copy)]
 pub enum Pictured {
     At(Picture),
     Refused(u8),

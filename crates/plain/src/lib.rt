@@ -4,6 +4,8 @@
 // given      from a host's numbers to our types, and the numbers that stand for nothing
 // shown      from our types to a host's numbers
 // answers    each answer as a code and what stands beside it
+#![tactic(auto)]
+
 mod answers;
 mod given;
 mod shown;

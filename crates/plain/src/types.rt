@@ -2,7 +2,7 @@
 
 // An address, and its place among the pictures that share it.
 #[repr(C)]
-#[derive(Drop)]
+#[derive(Clone, Copy)]
 pub struct PlainPicture {
     pub hours: u8,
     pub minutes: u8,
@@ -12,7 +12,7 @@ pub struct PlainPicture {
 }
 
 #[repr(C)]
-#[derive(Drop)]
+#[derive(Clone, Copy)]
 pub struct PlainRecord {
     pub hours: u8,
     pub minutes: u8,
@@ -37,7 +37,7 @@ pub struct PlainRecord {
 
 // What a packet carries.
 #[repr(C)]
-#[derive(Drop)]
+#[derive(Clone, Copy)]
 pub struct PlainContents {
     pub record: PlainRecord,
     pub payload_type: u8,
@@ -46,7 +46,7 @@ pub struct PlainContents {
 
 // A reader: `ways` is 0 where it hears forward only, 1 where it hears both ways.
 #[repr(C)]
-#[derive(Drop)]
+#[derive(Clone, Copy)]
 pub struct PlainReader {
     pub info: u64,
     pub sync: u16,
@@ -57,7 +57,7 @@ pub struct PlainReader {
 
 // What a reader answers: `found` is 0 for a corrected word, 1 for an uncorrected one; `way` is 0 for a word that runs forward, 1 for one that runs backward.
 #[repr(C)]
-#[derive(Drop)]
+#[derive(Clone, Copy)]
 pub struct PlainHeard {
     pub code: u8,
     pub found: u8,
@@ -67,7 +67,7 @@ pub struct PlainHeard {
 
 // The number of a picture of the day.
 #[repr(C)]
-#[derive(Drop)]
+#[derive(Clone, Copy)]
 pub struct NumberAnswer {
     pub code: u8,
     pub number: u32,
@@ -75,21 +75,21 @@ pub struct NumberAnswer {
 
 // The number of a picture within its second: another struct, so that the two are not mixed by accident.
 #[repr(C)]
-#[derive(Drop)]
+#[derive(Clone, Copy)]
 pub struct SecondAnswer {
     pub code: u8,
     pub number: u16,
 }
 
 #[repr(C)]
-#[derive(Drop)]
+#[derive(Clone, Copy)]
 pub struct PictureAnswer {
     pub code: u8,
     pub picture: PlainPicture,
 }
 
 #[repr(C)]
-#[derive(Drop)]
+#[derive(Clone, Copy)]
 pub struct DistanceAnswer {
     pub code: u8,
     pub pictures: i32,
@@ -97,7 +97,7 @@ pub struct DistanceAnswer {
 
 // What a linear word holds, and what was found.
 #[repr(C)]
-#[derive(Drop)]
+#[derive(Clone, Copy)]
 pub struct WordAnswer {
     pub code: u8,
     pub found: u8,
@@ -106,28 +106,28 @@ pub struct WordAnswer {
 
 // What a vertical interval line holds.
 #[repr(C)]
-#[derive(Drop)]
+#[derive(Clone, Copy)]
 pub struct LineAnswer {
     pub code: u8,
     pub record: PlainRecord,
 }
 
 #[repr(C)]
-#[derive(Drop)]
+#[derive(Clone, Copy)]
 pub struct PacketAnswer {
     pub code: u8,
     pub contents: PlainContents,
 }
 
 #[repr(C)]
-#[derive(Drop)]
+#[derive(Clone, Copy)]
 pub struct StepAnswer {
     pub heard: PlainHeard,
     pub reader: PlainReader,
 }
 
 #[repr(C)]
-#[derive(Drop)]
+#[derive(Clone, Copy)]
 pub struct BlockAnswer {
     pub heard: PlainHeard,
     pub reader: PlainReader,

@@ -3,6 +3,8 @@
 // types      corrected or not, and what a word is read as
 // even       the zeros and the polarity bit, and a record without that bit
 // hearing    from 64 information bits after which the sync word has been seen, to a record and what was found
+#![tactic(auto)]
+
 mod even;
 mod hearing;
 mod types;

@@ -3,6 +3,8 @@
 // types      what a rate, a flag and an address are
 // table      the frames in a second and in a day, and whether drop-frame may be asked for
 // judging    what a rate and a drop flag turn away
+#![tactic(auto)]
+
 mod judging;
 mod table;
 mod types;

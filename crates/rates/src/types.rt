@@ -1,12 +1,12 @@
 // A yes or a no of a record or a call.
-#[derive(Drop)]
+#[derive(Clone, Copy)]
 pub enum Flag {
     No,
     Yes,
 }
 
 // The rates of counting: 24, 25 and 30 frames in a second.
-#[derive(Drop)]
+#[derive(Clone, Copy)]
 pub enum Rate {
     At24,
     At25,
@@ -14,10 +14,10 @@ pub enum Rate {
 }
 
 // A frame number within a second, as an address has it: a kind of its own, so that it is not mixed with a frame number of the day by accident.
-#[derive(Drop)]
+#[derive(Clone, Copy)]
 pub struct SecondFrame(pub u8);
 
-#[derive(Drop)]
+#[derive(Clone, Copy)]
 pub struct Address {
     pub hours: u8,
     pub minutes: u8,

@@ -2,6 +2,8 @@
 //
 // types      what a step and a block answer
 // stepping   one bit, and a run of bits up to the first answer
+#![tactic(auto)]
+
 mod stepping;
 mod types;
 

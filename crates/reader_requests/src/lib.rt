@@ -4,6 +4,8 @@
 // answering  which request a line is, and its answer
 // holding    the reader that HELD describes
 // telling    what was heard, and what is held after it
+#![tactic(auto)]
+
 mod answering;
 mod holding;
 mod telling;

@@ -1,7 +1,7 @@
 // What is asked for, and a reader that a request describes.
 use register::Reader;
 
-#[derive(Drop)]
+#[derive(Clone, Copy)]
 pub enum Request {
     Step,
     Block,
@@ -9,7 +9,7 @@ pub enum Request {
 }
 
 // The reader that HELD describes, and the cursor past its field.
-#[derive(Drop)]
+#[derive(Clone, Copy)]
 pub struct Held {
     pub reader: Reader,
     pub next: usize,

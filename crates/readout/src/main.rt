@@ -2,6 +2,8 @@
 // the lines are written.
 //
 // types      where the program stands
+#![tactic(auto)]
+
 ghost use Rattle.std.specs.Prelude.{◌≡◌, true, ◌*◌, ◌≤◌, length};
 ghost use Rattle.scribe.specs.Told.{Brought};
 ghost use Rattle.readout.specs.Piece.{PieceTold};

@@ -4,6 +4,8 @@
 // judging    what is turned away, in the bits and in a record alike
 // reading    from 64 information bits to a record
 // writing    from a record to 64 information bits
+#![tactic(auto)]
+
 mod judging;
 mod reading;
 mod types;

@@ -1,7 +1,7 @@
 use rates::{Address, Flag};
 
 // The flags of a record, each yes or no.
-#[derive(Drop)]
+#[derive(Clone, Copy)]
 pub struct Flags {
     pub drop: Flag,
     pub colour: Flag,
@@ -12,7 +12,7 @@ pub struct Flags {
 }
 
 // The eight binary groups, each four bits.
-#[derive(Drop)]
+#[derive(Clone, Copy)]
 pub struct Groups {
     pub group1: u8,
     pub group2: u8,
@@ -25,7 +25,7 @@ pub struct Groups {
 }
 
 // What a code word, a line or a packet says. The place is that of its picture among those that share the address, 0 the first.
-#[derive(Drop)]
+#[derive(Clone, Copy)]
 pub struct Record {
     pub address: Address,
     pub flags: Flags,
@@ -34,14 +34,14 @@ pub struct Record {
 }
 
 // The record that 64 information bits hold.
-#[derive(Drop)]
+#[derive(Clone, Copy)]
 pub enum Unpacked {
     Holds(Record),
     Refused(u8),
 }
 
 // The 64 information bits that a record makes, low bit first.
-#[derive(Drop)]
+#[derive(Clone, Copy)]
 pub enum Packed {
     Bits(u64),
     Refused(u8),

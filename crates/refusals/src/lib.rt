@@ -1,6 +1,8 @@
 // The numbers for what is turned away: document 01's table, in its order and words, and after it those that requests of document 02 add.
 //
 // types      what a judge answers
+#![tactic(auto)]
+
 mod types;
 
 pub use types::Verdict;

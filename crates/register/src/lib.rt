@@ -2,6 +2,8 @@
 //
 // types      what a reader is, and the ways in which it hears
 // places     a fresh reader, and the states that no feeding reaches
+#![tactic(auto)]
+
 mod places;
 mod types;
 

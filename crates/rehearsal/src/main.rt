@@ -4,6 +4,8 @@
 //
 // families   which family of requests a line belongs to, and its answer
 // types      how far the reading is
+#![tactic(auto)]
+
 ghost use Rattle.std.specs.Prelude.{◌≡◌, true, ◌≤◌, ◌<◌, length};
 
 mod families;

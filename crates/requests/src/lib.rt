@@ -4,6 +4,8 @@
 // fields     the fields of a line, and the numbers in them
 // elements   the runs in them
 // values     from the numbers of a request to what the calls take
+#![tactic(auto)]
+
 mod elements;
 mod fields;
 mod types;

@@ -7,6 +7,8 @@
 //
 // distances  from one number to another
 // sums       a number and a signed count
+#![tactic(auto)]
+
 mod distances;
 mod sums;
 

@@ -3,6 +3,8 @@
 // types      what gathering and writing answer
 // carry      one bit to an element, low bit first
 // room       room for a write from a start on
+#![tactic(auto)]
+
 mod carry;
 mod room;
 mod types;

@@ -1,5 +1,5 @@
 // The number that a run of at most 64 bits stands for. A longer run has none, nor has one with an element above 1.
-#[derive(Drop)]
+#[derive(Clone, Copy)]
 pub enum Gathered {
     Number(u64),
     TooLong,
@@ -7,7 +7,7 @@ pub enum Gathered {
 }
 
 // What a write into a lent run answers.
-#[derive(Drop)]
+#[derive(Clone, Copy)]
 pub enum Written {
     Done,
     Refused(u8),

@@ -2,6 +2,8 @@
 //
 // types      where a scribe stands, and what it tells
 // copying    a piece of characters to its lines
+#![tactic(auto)]
+
 mod copying;
 mod types;
 

@@ -1,7 +1,7 @@
 use register::Reader;
 
 // A reader, the bits so far, and how many characters may still come: none once the reading has ended.
-#[derive(Drop)]
+#[derive(Clone, Copy)]
 pub struct Scribe {
     pub reader: Reader,
     pub bits: u64,
@@ -9,20 +9,20 @@ pub struct Scribe {
 }
 
 // The scribe after a piece of characters, and the length of the lines that it wrote at the start of the lent run.
-#[derive(Drop)]
+#[derive(Clone, Copy)]
 pub struct Telling {
     pub scribe: Scribe,
     pub length: usize,
 }
 
-#[derive(Drop)]
+#[derive(Clone, Copy)]
 pub enum Told {
     Lines(Telling),
     Refused(u8),
 }
 
 // A reader and the bits so far, how many bits of the run were taken, and the place after the lines so far.
-#[derive(Drop)]
+#[derive(Clone, Copy)]
 pub struct Block {
     pub reader: Reader,
     pub bits: u64,

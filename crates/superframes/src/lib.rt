@@ -4,6 +4,8 @@
 // reading    from 64 information bits to a record
 // writing    from a record to 64 information bits
 // naming     the second byte that names a mode
+#![tactic(auto)]
+
 mod bits;
 mod naming;
 mod reading;

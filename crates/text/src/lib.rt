@@ -2,6 +2,8 @@
 //
 // laying     text put into a run
 // digits     numbers as text
+#![tactic(auto)]
+
 mod digits;
 mod laying;
 

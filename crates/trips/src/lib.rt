@@ -7,3 +7,4 @@
 // proofs/Lines    vertical interval lines and records
 // proofs/Packets  packets, and record, type and second byte; proofs/Nineteen when a packet is refused by 19 or 23
 // proofs/Eleven   when a write of any of the three is refused by 11
+#![tactic(auto)]

@@ -2,6 +2,8 @@
 //
 // reading    from a line to a record
 // writing    from a record to a line in the middle of a lent run
+#![tactic(auto)]
+
 mod reading;
 mod writing;
 

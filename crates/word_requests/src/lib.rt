@@ -6,6 +6,8 @@
 // answering  which request a line is, and its answer
 // reading    reads of linear words, vertical interval lines and packets
 // writing    writes of them
+#![tactic(auto)]
+
 mod answering;
 mod faces;
 mod reading;

@@ -2,20 +2,20 @@
 use atc::Interface;
 
 // The two carriers that have a bit to an element.
-#[derive(Drop)]
+#[derive(Clone, Copy)]
 pub enum Carrier {
     Ltc,
     Vitc,
 }
 
 // FACE: the interface that a number names, if it names one.
-#[derive(Drop)]
+#[derive(Clone, Copy)]
 pub enum Face {
     Named(Interface),
     Unknown,
 }
 
-#[derive(Drop)]
+#[derive(Clone, Copy)]
 pub enum Request {
     BitsRead(Carrier),
     WordsRead,

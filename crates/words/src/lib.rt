@@ -2,6 +2,8 @@
 //
 // making     one word with its b8 and b9, and a run of data words
 // sweeps     loops over words: tests and the checksum
+#![tactic(auto)]
+
 mod making;
 mod sweeps;
 
