@@ -13,7 +13,7 @@ use Rattle.refusals.proofs.Verdicts.{refused_by, sound_clear}
 use Rattle.runs.specs.declared.types.Written.{Written}
 use Rattle.runs.specs.declared.types.Written.TheVariants.{Refused as Unwritten}
 use Rattle.runs.specs.Run.{written_by, run_after, room_refusals}
-use Rattle.runs.proofs.Written.{turned_away}
+use Rattle.runs.proofs.Outcomes.{turned_away}
 use Rattle.record.specs.declared.types.Record.{Record}
 use Rattle.record.specs.declared.types.Packed.TheVariants.{Bits, Refused as Unpackable}
 use Rattle.modes.specs.Modes.{uncounted, with_counting}

@@ -133,69 +133,69 @@ module _ (mode : ℕ) (drop : Flag) where
 
   pub number_refused_by_2 : (p : Picture) → (number_in mode drop p ≡ Unnumbered 2) ↔ (11 ≤ mode)
   number_refused_by_2 p =
-      rw (counts.number-rows mode drop p)
-      (two_first Unnumbered (Number (record { 0 = number p })) of_numbered (λ k. refl) refl mode (rows p) (counts.picture-rows-in-order mode drop p))
+      rw (counts.number_rows mode drop p)
+      (two_first Unnumbered (Number (record { 0 = number p })) of_numbered (λ k. refl) refl mode (rows p) (counts.picture_rows_in_order mode drop p))
 
   pub in_second_refused_by_2 : (p : Picture) → (in_second_in mode drop p ≡ Uncounted 2) ↔ (11 ≤ mode)
   in_second_refused_by_2 p =
-      rw (counts.in-second-rows mode drop p)
+      rw (counts.in_second_rows mode drop p)
       (two_first Uncounted (Counted (record { 0 = number_in_second (pictures_at mode) p })) of_in_second (λ k. refl) refl mode (rows p)
-      (counts.picture-rows-in-order mode drop p))
+      (counts.picture_rows_in_order mode drop p))
 
   pub picture_refused_by_2 : (n : DayFrame) → (picture_in mode drop n ≡ Unpictured 2) ↔ (11 ≤ mode)
   picture_refused_by_2 n =
-      rw (counts.picture-rows mode drop n)
+      rw (counts.picture_rows mode drop n)
       (two_first Unpictured (At (numbered n.0)) of_pictured (λ k. refl) refl mode (number_refusals rate (pictures_at mode) drop n.0)
-      (counts.number-rows-in-order mode drop n.0))
+      (counts.number_rows_in_order mode drop n.0))
 
   pub fields_refused_by_2 : (p : Picture) → (fields_in mode drop p ≡ Unpictured 2) ↔ (11 ≤ mode)
   fields_refused_by_2 p =
-      rw (counts.fields-rows mode drop p) (two_first Unpictured (At p) of_pictured (λ k. refl) refl mode (rows p) (counts.picture-rows-in-order mode drop p))
+      rw (counts.fields_rows mode drop p) (two_first Unpictured (At p) of_pictured (λ k. refl) refl mode (rows p) (counts.picture_rows_in_order mode drop p))
 
   pub span_refused_by_2 : (from to : Picture) → (span_in mode drop from to ≡ Unmeasured 2) ↔ (11 ≤ mode)
   span_refused_by_2 from to =
-      rw (counts.span-rows mode drop from to)
+      rw (counts.span_rows mode drop from to)
       (two_first Unmeasured (Frames (distance_of day (number from) (number to))) of_span (λ k. refl) refl mode (two_refusals rate (pictures_at mode) drop from to)
-      (counts.two-rows-in-order mode drop from to))
+      (counts.two_rows_in_order mode drop from to))
 
   pub plus_refused_by_2 : (p : Picture) (z : ℤ) → (plus_in mode drop p z ≡ Unpictured 2) ↔ (11 ≤ mode)
   plus_refused_by_2 p z =
-      rw (counts.plus-rows mode drop p z)
-      (two_first Unpictured (At (numbered (sum_of day (number p) z))) of_pictured (λ k. refl) refl mode (rows p) (counts.picture-rows-in-order mode drop p))
+      rw (counts.plus_rows mode drop p z)
+      (two_first Unpictured (At (numbered (sum_of day (number p) z))) of_pictured (λ k. refl) refl mode (rows p) (counts.picture_rows_in_order mode drop p))
 
 -- words, lines and packets, written and read
 module _ (mode : ℕ) (r : Record) (start : ℕ) (run : List ℕ) where
   pub linear_written_refused_by_2 : (ltc.written_of mode r start run ≡ Unwritten 2) ↔ (6 ≤ mode)
-  unfolding ltc.written_of ltc.writtenRows
+  unfolding ltc.written_of ltc.written_rows
   linear_written_refused_by_2 =
-      first_of (given_exactly Unwritten Done of_written (λ k. refl) refl unknown_mode (omega arith) (ltc.writtenRows mode r start run) (linear.written-rows-in-order mode r start run)) (unknown_from mode)
+      first_of (given_exactly Unwritten Done of_written (λ k. refl) refl unknown_mode (omega arith) (ltc.written_rows mode r start run) (linear.written_rows_in_order mode r start run)) (unknown_from mode)
 
   pub interval_written_refused_by_2 : (vitc.written_of mode r start run ≡ Unwritten 2) ↔ (6 ≤ mode)
   unfolding vitc.written_of
   interval_written_refused_by_2 =
-      first_of (given_exactly Unwritten Done of_written (λ k. refl) refl unknown_mode (omega arith) (vitc.writtenRows mode r start run) (interval.written-rows-in-order mode r start run)) (unknown_from mode)
+      first_of (given_exactly Unwritten Done of_written (λ k. refl) refl unknown_mode (omega arith) (vitc.written_rows mode r start run) (interval.written_rows_in_order mode r start run)) (unknown_from mode)
 
   pub ancillary_written_refused_by_2 :
       (interface : Interface) (type second : ℕ) → (atc.written_of mode interface r type second start run ≡ Unwritten 2) ↔ (11 ≤ mode)
   unfolding atc.written_of
   ancillary_written_refused_by_2 interface type second =
-      first_of (given_exactly Unwritten Done of_written (λ k. refl) refl unknown_mode (omega arith) (atc.writtenRows mode interface r type second start run) (ancillary.written-rows-in-order mode interface r type second start run)) (uncounted_from mode)
+      first_of (given_exactly Unwritten Done of_written (λ k. refl) refl unknown_mode (omega arith) (atc.written_rows mode interface r type second start run) (ancillary.written_rows_in_order mode interface r type second start run)) (uncounted_from mode)
 
 module _ (mode : ℕ) (elements : List ℕ) where
   pub linear_refused_by_2 : (ltc.read_of mode elements ≡ Unread 2) ↔ ((length elements ≡ 80) × (6 ≤ mode))
   unfolding ltc.read_of
   linear_refused_by_2 =
-      after_length elements 80 (given_exactly Unread _ of_word (λ k. refl) refl unknown_mode (omega arith) (ltc.readRefusals mode elements) (linear.read-rows-in-order mode elements)) (unknown_from mode)
+      after_length elements 80 (given_exactly Unread _ of_word (λ k. refl) refl unknown_mode (omega arith) (ltc.read_refusals mode elements) (linear.read_rows_in_order mode elements)) (unknown_from mode)
 
   pub interval_refused_by_2 : (vitc.read_of mode elements ≡ Unheld 2) ↔ ((length elements ≡ 90) × (6 ≤ mode))
   unfolding vitc.read_of
   interval_refused_by_2 =
-      after_length elements 90 (given_exactly Unheld _ of_unpacked (λ k. refl) refl unknown_mode (omega arith) (vitc.readRefusals mode elements) (interval.read-rows-in-order mode elements)) (unknown_from mode)
+      after_length elements 90 (given_exactly Unheld _ of_unpacked (λ k. refl) refl unknown_mode (omega arith) (vitc.read_refusals mode elements) (interval.read_rows_in_order mode elements)) (unknown_from mode)
 
   pub ancillary_refused_by_2 : (interface : Interface) → (atc.read_of mode interface elements ≡ Turned 2) ↔ ((length elements ≡ 23) × (11 ≤ mode))
   unfolding atc.read_of
   ancillary_refused_by_2 interface =
-      after_length elements 23 (given_exactly Turned _ of_packet (λ k. refl) refl unknown_mode (omega arith) (atc.readRefusals mode interface elements) (ancillary.read-rows-in-order mode interface elements)) (uncounted_from mode)
+      after_length elements 23 (given_exactly Turned _ of_packet (λ k. refl) refl unknown_mode (omega arith) (atc.read_refusals mode interface elements) (ancillary.read_rows_in_order mode interface elements)) (uncounted_from mode)
 
 -- the calls of the record on the lines, and those of high frame rates, which are of modes 6 to 10 alone
 module _ (mode : ℕ) where
@@ -220,17 +220,17 @@ module _ (mode : ℕ) where
       go true t (inr high) = let within = (high_exactly mode).0 t in absurd (omega arith)
       go false t out = refl
 
-  pub super_frame_refused_by_2 : (info : ℕ) → (superframes.unpackedIn mode info ≡ Unheld 2) ↔ ((mode ≤ 5) ⊎ (11 ≤ mode))
-  unfolding superframes.unpackedIn
+  pub super_frame_refused_by_2 : (info : ℕ) → (superframes.unpacked_in mode info ≡ Unheld 2) ↔ ((mode ≤ 5) ⊎ (11 ≤ mode))
+  unfolding superframes.unpacked_in
   super_frame_refused_by_2 info =
       first_of (given_exactly Unheld _ of_unpacked (λ k. refl) refl unknown_mode (omega arith)
-      (superframes.withHighRate mode (superframes.bitsRefusals (rate_at mode) (pictures_at mode) info)) (high.bits-rows-in-order mode info)) not_high
+      (superframes.with_high_rate mode (superframes.bits_refusals (rate_at mode) (pictures_at mode) info)) (high.bits_rows_in_order mode info)) not_high
 
-  pub super_frame_made_refused_by_2 : (r : Record) → (superframes.packedIn mode r ≡ Unpackable 2) ↔ ((mode ≤ 5) ⊎ (11 ≤ mode))
-  unfolding superframes.packedIn
+  pub super_frame_made_refused_by_2 : (r : Record) → (superframes.packed_in mode r ≡ Unpackable 2) ↔ ((mode ≤ 5) ⊎ (11 ≤ mode))
+  unfolding superframes.packed_in
   super_frame_made_refused_by_2 r =
       first_of (given_exactly Unpackable _ of_packed (λ k. refl) refl unknown_mode (omega arith)
-      (superframes.withHighRate mode (superframes.writeRefusals (rate_at mode) (pictures_at mode) r)) (high.write-rows-in-order mode r)) not_high
+      (superframes.with_high_rate mode (superframes.write_refusals (rate_at mode) (pictures_at mode) r)) (high.write_rows_in_order mode r)) not_high
 
 -- a reader in such a mode answers 2 to every step and block, and stays as it was: "it is LTC"
 module _ (reader : Reader) (high : 6 ≤ reader.mode) where

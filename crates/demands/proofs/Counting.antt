@@ -70,24 +70,24 @@ module _ (mode : ℕ) (drop : Flag) where
 
     pub number_refused_by_8 : (number_in mode drop p ≡ Unnumbered 8) ↔ ((mode ≤ 10) × Eight)
     number_refused_by_8 =
-        rw (counts.number-rows mode drop p)
+        rw (counts.number_rows mode drop p)
         (eighth (test_of outside_the_clock rows) (test_of skipped_address rows) (test_of unused_bit_set rows) eight_is nine_is ten_is
-        (with_front (given_exactly Unnumbered (Number number) of_numbered (λ k. refl) refl outside_the_clock (omega arith) rows (counts.picture-rows-in-order mode drop p)) counted))
+        (with_front (given_exactly Unnumbered (Number number) of_numbered (λ k. refl) refl outside_the_clock (omega arith) rows (counts.picture_rows_in_order mode drop p)) counted))
 
     pub number_refused_by_9 : (number_in mode drop p ≡ Unnumbered 9) ↔ ((mode ≤ 10) × (Eight → ⊥) × Nine mode drop p.address)
     number_refused_by_9 =
-        rw (counts.number-rows mode drop p)
+        rw (counts.number_rows mode drop p)
         (ninth (test_of outside_the_clock rows) (test_of skipped_address rows) (test_of unused_bit_set rows) eight_is nine_is ten_is
-        (with_front (given_exactly Unnumbered (Number number) of_numbered (λ k. refl) refl skipped_address (omega arith) rows (counts.picture-rows-in-order mode drop p)) (
+        (with_front (given_exactly Unnumbered (Number number) of_numbered (λ k. refl) refl skipped_address (omega arith) rows (counts.picture_rows_in_order mode drop p)) (
           λ clear. ((counted_exactly mode).0 clear.0, clear.1.0),
           λ all. ((counted_exactly mode).1 all.0, (all.1, tt)),
         )))
 
     pub number_refused_by_10 : (number_in mode drop p ≡ Unnumbered 10) ↔ ((mode ≤ 10) × (Eight → ⊥) × (Nine mode drop p.address → ⊥) × Ten)
     number_refused_by_10 =
-        rw (counts.number-rows mode drop p)
+        rw (counts.number_rows mode drop p)
         (tenth (test_of outside_the_clock rows) (test_of skipped_address rows) (test_of unused_bit_set rows) eight_is nine_is ten_is
-        (with_front (given_exactly Unnumbered (Number number) of_numbered (λ k. refl) refl unused_bit_set (omega arith) rows (counts.picture-rows-in-order mode drop p)) (
+        (with_front (given_exactly Unnumbered (Number number) of_numbered (λ k. refl) refl unused_bit_set (omega arith) rows (counts.picture_rows_in_order mode drop p)) (
           λ clear. (((counted_exactly mode).0 clear.0, clear.1.0), clear.1.1.0),
           λ all. ((counted_exactly mode).1 all.0.0, (all.0.1, (all.1, tt))),
         )))
@@ -95,23 +95,23 @@ module _ (mode : ℕ) (drop : Flag) where
     -- clock fields are refused as the picture's number is, and make the picture where it has one
     pub fields_refused_alike : (k : ℕ) → number_in mode drop p ≡ Unnumbered k → fields_in mode drop p ≡ Unpictured k
     fields_refused_alike k e =
-        counts.fields-rows mode drop p
+        counts.fields_rows mode drop p
         ∙ sym (carried (pictured_as p) Unnumbered (Number number) rows)
-        ∙ ap (pictured_as p) (sym (counts.number-rows mode drop p) ∙ e)
+        ∙ ap (pictured_as p) (sym (counts.number_rows mode drop p) ∙ e)
 
     pub fields_as_numbers : (n : DayFrame) → number_in mode drop p ≡ Number n → fields_in mode drop p ≡ At p
     fields_as_numbers n e =
-        counts.fields-rows mode drop p
-        ∙ otherwise_accepted Unpictured (At p) rows (accepted_as Unnumbered (Number number) rows (Number n) no_number (sym (counts.number-rows mode drop p) ∙ e)).0
+        counts.fields_rows mode drop p
+        ∙ otherwise_accepted Unpictured (At p) rows (accepted_as Unnumbered (Number number) rows (Number n) no_number (sym (counts.number_rows mode drop p) ∙ e)).0
 
     -- a sum is refused as the picture's number is, and is else the picture of the sum of numbers
     pub sum_refused_alike : (z : ℤ) (k : ℕ) → number_in mode drop p ≡ Unnumbered k → plus_in mode drop p z ≡ Unpictured k
     sum_refused_alike z k e =
         let day = pictures_in_day (rate_at mode) (pictures_at mode) (is_yes drop) in
         let sum = picture_at (frames_in_second (rate_at mode)) (pictures_at mode) (is_yes drop) (sum_of day number.0 z) in
-        counts.plus-rows mode drop p z
+        counts.plus_rows mode drop p z
         ∙ sym (carried (pictured_as sum) Unnumbered (Number number) rows)
-        ∙ ap (pictured_as sum) (sym (counts.number-rows mode drop p) ∙ e)
+        ∙ ap (pictured_as sum) (sym (counts.number_rows mode drop p) ∙ e)
 
     pub sum_by_numbers :
         (n : DayFrame) (z : ℤ) → number_in mode drop p ≡ Number n
@@ -167,24 +167,24 @@ module _ (mode : ℕ) (drop : Flag) where
 
     pub distance_refused_by_8 : (span_in mode drop from to ≡ Unmeasured 8) ↔ ((mode ≤ 10) × EightOfTwo)
     distance_refused_by_8 =
-        rw (counts.span-rows mode drop from to)
+        rw (counts.span_rows mode drop from to)
         (eighth (test_of outside_the_clock two_rows) (test_of skipped_address two_rows) (test_of unused_bit_set two_rows) eight_two nine_two ten_two
-        (with_front (given_exactly Unmeasured (Frames apart) of_span (λ k. refl) refl outside_the_clock (omega arith) two_rows (counts.two-rows-in-order mode drop from to)) counted))
+        (with_front (given_exactly Unmeasured (Frames apart) of_span (λ k. refl) refl outside_the_clock (omega arith) two_rows (counts.two_rows_in_order mode drop from to)) counted))
 
     pub distance_refused_by_9 : (span_in mode drop from to ≡ Unmeasured 9) ↔ ((mode ≤ 10) × (EightOfTwo → ⊥) × NineOfTwo)
     distance_refused_by_9 =
-        rw (counts.span-rows mode drop from to)
+        rw (counts.span_rows mode drop from to)
         (ninth (test_of outside_the_clock two_rows) (test_of skipped_address two_rows) (test_of unused_bit_set two_rows) eight_two nine_two ten_two
-        (with_front (given_exactly Unmeasured (Frames apart) of_span (λ k. refl) refl skipped_address (omega arith) two_rows (counts.two-rows-in-order mode drop from to)) (
+        (with_front (given_exactly Unmeasured (Frames apart) of_span (λ k. refl) refl skipped_address (omega arith) two_rows (counts.two_rows_in_order mode drop from to)) (
           λ clear. ((counted_exactly mode).0 clear.0, clear.1.0),
           λ all. ((counted_exactly mode).1 all.0, (all.1, tt)),
         )))
 
     pub distance_refused_by_10 : (span_in mode drop from to ≡ Unmeasured 10) ↔ ((mode ≤ 10) × (EightOfTwo → ⊥) × (NineOfTwo → ⊥) × TenOfTwo)
     distance_refused_by_10 =
-        rw (counts.span-rows mode drop from to)
+        rw (counts.span_rows mode drop from to)
         (tenth (test_of outside_the_clock two_rows) (test_of skipped_address two_rows) (test_of unused_bit_set two_rows) eight_two nine_two ten_two
-        (with_front (given_exactly Unmeasured (Frames apart) of_span (λ k. refl) refl unused_bit_set (omega arith) two_rows (counts.two-rows-in-order mode drop from to)) (
+        (with_front (given_exactly Unmeasured (Frames apart) of_span (λ k. refl) refl unused_bit_set (omega arith) two_rows (counts.two_rows_in_order mode drop from to)) (
           λ clear. (((counted_exactly mode).0 clear.0, clear.1.0), clear.1.1.0),
           λ all. ((counted_exactly mode).1 all.0.0, (all.0.1, (all.1, tt))),
         )))
@@ -199,19 +199,19 @@ module _ (mode : ℕ) (drop : Flag) where
 
     pub picture_refused_by_10 : (picture_in mode drop n ≡ Unpictured 10) ↔ ((mode ≤ 10) × DropUnused mode drop)
     picture_refused_by_10 =
-        rw (counts.picture-rows mode drop n)
+        rw (counts.picture_rows mode drop n)
         (eighth (test_of unused_bit_set number_rows) false false (λ few. drop_unused_exactly mode few drop) (λ few. (λ e. e, λ e. e)) (λ few. (λ e. e, λ e. e))
-        (with_front (given_exactly Unpictured (At numbered) of_pictured (λ k. refl) refl unused_bit_set (omega arith) number_rows (counts.number-rows-in-order mode drop n.0)) counted))
+        (with_front (given_exactly Unpictured (At numbered) of_pictured (λ k. refl) refl unused_bit_set (omega arith) number_rows (counts.number_rows_in_order mode drop n.0)) counted))
 
     pub picture_refused_by_14 :
         (picture_in mode drop n ≡ Unpictured 14)
         ↔ ((mode ≤ 10) × (DropUnused mode drop → ⊥) × (pictures_in_day (rate_at mode) (pictures_at mode) (is_yes drop) ≤ n.0))
     picture_refused_by_14 =
         let day = pictures_in_day (rate_at mode) (pictures_at mode) (is_yes drop) in
-        rw (counts.picture-rows mode drop n)
+        rw (counts.picture_rows mode drop n)
         (ninth (test_of unused_bit_set number_rows) (test_of number_past_the_day number_rows) false (λ few. drop_unused_exactly mode few drop)
         (λ few. (leb-true day n.0, le-leb day n.0)) (λ few. (λ e. e, λ e. e))
-        (with_front (given_exactly Unpictured (At numbered) of_pictured (λ k. refl) refl number_past_the_day (omega arith) number_rows (counts.number-rows-in-order mode drop n.0)) (
+        (with_front (given_exactly Unpictured (At numbered) of_pictured (λ k. refl) refl number_past_the_day (omega arith) number_rows (counts.number_rows_in_order mode drop n.0)) (
           λ clear. ((counted_exactly mode).0 clear.0, clear.1.0),
           λ all. ((counted_exactly mode).1 all.0, (all.1, tt)),
         )))

@@ -79,19 +79,19 @@ pictures_after_midnight rate pictures drop some = picture_shown_lem (frames_in_s
 -- a picture is turned away exactly where no number of steps, picture by picture, shows it. Of `pictures::number_of` and `pictures::picture_of`, whatever the rate.
 module _ (rate : Rate) (pictures : ℕ) (drop : Flag) (some : 0 < pictures) where
   pub numbers_and_pictures : (p : Picture) (n : DayFrame) → (number_of rate pictures drop p ≡ Number n) ↔ (picture_of rate pictures drop n ≡ At p)
-  numbers_and_pictures = any.one-to-one rate pictures drop some
+  numbers_and_pictures = any.one_to_one rate pictures drop some
 
   module _ (may : (is_yes drop && not (may_drop rate)) ≡ false) where
     pub every_picture_number : (n : ℕ) → n < pictures_in_day rate pictures (is_yes drop)
         → picture_of rate pictures drop (record { 0 = n }) ≡ At (picture_shown (frames_in_second rate) pictures (is_yes drop) n)
-    every_picture_number = any.picture-is-shown rate pictures drop some may
+    every_picture_number = any.picture_is_shown rate pictures drop some may
 
     pub picture_turned_away_exactly :
         (p : Picture)
         → ((number_of rate pictures drop p ≡ Unnumbered 8)
         ⊎ ((number_of rate pictures drop p ≡ Unnumbered 9) ⊎ ((number_of rate pictures drop p ≡ Unnumbered 10) × (pictures ≡ 1) × (0 < p.place))))
         ↔ ((n : ℕ) → picture_shown (frames_in_second rate) pictures (is_yes drop) n ≡ p → ⊥)
-    picture_turned_away_exactly = any.refused-exactly rate pictures drop some may
+    picture_turned_away_exactly = any.refused_exactly rate pictures drop some may
 
 -- "Frame numbers of a day and addresses match one to one, drop-frame or not": of `modes::number_of` and `modes::picture_of`, in every mode.
 pub numbers_and_addresses :
@@ -171,32 +171,32 @@ word_by_bit Corrected mode r = go (odd_zeros (with_bit No mode r))
 -- a word of an acceptable record is found as it was made, where that can be, and only there
 found_as_made : (make : Found) (mode : ℕ) (r : Record) → ltc.Acceptable mode r → FoundAsMade make mode r → found_in (word_of mode r make) ≡ make
 unfolding word_of
-found_as_made Corrected mode r ok can = ltc.corrected-found mode r ok
+found_as_made Corrected mode r ok can = ltc.corrected_found mode r ok
 found_as_made Uncorrected mode r ok odd = ap (λ (b : Bool). cond b Uncorrected Corrected) odd
 
 made_as_found : (make : Found) (mode : ℕ) (r : Record) (word : List ℕ) → read_of mode word ≡ Read r make → FoundAsMade make mode r
 unfolding word_of
 made_as_found Corrected mode r word reads = tt
-made_as_found Uncorrected mode r word reads = rw (ltc.written-of-read mode r Uncorrected word reads).1 (odd_found word (ltc.read-clear mode r Uncorrected word reads).2)
+made_as_found Uncorrected mode r word reads = rw (ltc.written_of_read mode r Uncorrected word reads).1 (odd_found word (ltc.read_clear mode r Uncorrected word reads).2)
 
 linear_laws : (make : Found) → Laws (only (FoundAsMade make) (linear make))
 linear_laws make =
     record {
       roomy = λ mode r start run done. linear_room make mode r start run done.0;
       done_reads =
-          λ mode r start run room done. rw (found_as_made make mode r (ltc.done-acceptable mode r start run done.0) done.1) at
+          λ mode r start run room done. rw (found_as_made make mode r (ltc.done_acceptable mode r start run done.0) done.1) at
           (ltc.done_reads mode r make start run done.0);
       read_writes =
           λ mode r start run word room reads. (let written = ltc.read_writes mode r make start run word reads room in
           ((written.0, made_as_found make mode r word reads), written.1));
-      sized = λ mode r word reads. ltc.long mode word (ltc.read-clear mode r make word reads).0;
+      sized = λ mode r word reads. ltc.long mode word (ltc.read_clear mode r make word reads).0;
       taken =
-          λ mode r word reads. (let again = ltc.written-of-read mode r make word reads in
+          λ mode r word reads. (let again = ltc.written_of_read mode r make word reads in
           (((on_lines_exactly mode r).0 again.0.0, again.0.1, again.0.2), made_as_found make mode r word reads));
       elements_of = λ mode r. word_of mode r make;
       reads =
           λ mode r ok. (let able : ltc.Acceptable mode r = ((on_lines_exactly mode r).1 ok.0.0, ok.0.1, ok.0.2) in
-          rw (found_as_made make mode r able ok.1) at (ltc.read-of-written mode r able make));
+          rw (found_as_made make mode r able ok.1) at (ltc.read_of_written mode r able make));
     }
 
 -- a line can hold a record exactly where the record is acceptable and its mark says its picture
@@ -210,7 +210,7 @@ interval_laws : Laws interval
 interval_laws =
     record {
       roomy = interval_room;
-      done_reads = λ mode r start run room done. (vitc.one-to-one mode r start run _ room).0 (done, refl);
+      done_reads = λ mode r start run room done. (vitc.one_to_one mode r start run _ room).0 (done, refl);
       read_writes = λ mode r start run line room reads. vitc.read_writes mode r start run line room reads;
       sized = λ mode r line reads. ((vitc.reads mode r line).0 reads).0.long;
       taken = λ mode r line reads. (line_exactly mode r).0 ((vitc.made_reads mode r line).1 reads).0;
@@ -227,16 +227,16 @@ ancillary_laws interface =
       read_writes =
           λ mode c start run words room reads.
           (let written = atc.read_writes mode interface c.«record» c.payload_type c.second start run words reads room in
-          (((atc.read-sized mode interface words c reads).1, written.0), written.1));
-      sized = λ mode c words reads. (atc.read-sized mode interface words c reads).0;
+          (((atc.read_sized mode interface words c reads).1, written.0), written.1));
+      sized = λ mode c words reads. (atc.read_sized mode interface words c reads).0;
       taken =
           λ mode c words reads.
-          (let again = atc.written-of-read mode interface words c.«record» c.payload_type c.second reads in
+          (let again = atc.written_of_read mode interface words c.«record» c.payload_type c.second reads in
           let able = (packet_exactly mode interface c).0 again.0 in
-          (able.0, able.1.0, (atc.read-sized mode interface words c reads).1, able.1.1, able.2, able.1.2));
+          (able.0, able.1.0, (atc.read_sized mode interface words c reads).1, able.1.1, able.2, able.1.2));
       elements_of = λ mode c. packet_of mode c.«record» c.payload_type c.second;
       reads =
-          λ mode c ok. atc.read-of-written mode interface c.«record» c.payload_type c.second
+          λ mode c ok. atc.read_of_written mode interface c.«record» c.payload_type c.second
           ((packet_exactly mode interface c).1 (ok.0, (ok.1, ok.3, ok.5), ok.4)) ok.2;
     }
 
@@ -268,18 +268,18 @@ linear_refused_by_5 = five_exactly
 -- "corrected when the zeros are even, uncorrected when they are odd".
 pub linear_found :
     (mode : ℕ) (r : Record) (found : Found) (word : List ℕ) → (linear found).Reads mode word r → cond (odd_zeros word) Uncorrected Corrected ≡ found
-linear_found mode r found word reads = (ltc.read-clear mode r found word reads).2
+linear_found mode r found word reads = (ltc.read_clear mode r found word reads).2
 
 -- "Writing is told which to make, and uncorrected writes the bit as 0". Shut out: uncorrected words written with the bit set, or as corrected; corrected words
 -- written with it clear, or with another bit set for it.
 pub linear_leaves :
     (make : Found) (mode : ℕ) (r : Record) (start : ℕ) (run : List ℕ) → (linear make).Writes mode r start run
     → (linear make).leaves mode r start run ≡ placed start (with_bit (bit_for make mode r) mode r) run
-linear_leaves make mode r start run done = ltc.done-leaves mode r make start run done ∙ ap (λ (word : List ℕ). placed start word run) (word_by_bit make mode r)
+linear_leaves make mode r start run done = ltc.done_leaves mode r make start run done ∙ ap (λ (word : List ℕ). placed start word run) (word_by_bit make mode r)
 
 -- and that is its polarity bit
 pub linear_bit : (bit : Flag) (mode : ℕ) (r : Record) → OnLines mode r → polarity_bit (rate_at mode) (with_bit bit mode r) ≡ bit
-linear_bit bit mode r ok = ltc.bit-of-word mode r ((on_lines_exactly mode r).1 ok) bit
+linear_bit bit mode r ok = ltc.bit_of_word mode r ((on_lines_exactly mode r).1 ok) bit
 
 -- "Reading back a written word gives its record": whichever was made, with what its zeros say was found. Shut out, with the above: a reader that refuses each
 -- uncorrected word.
@@ -288,7 +288,7 @@ pub linear_reads_back :
     → let left = take 80 (drop start ((linear make).leaves mode r start run)) in (linear (found_in left)).Reads mode left r
 linear_reads_back make mode r start run done =
     let reads = ltc.done_reads mode r make start run done in
-    reads ∙ ap (Read r) (sym (ltc.read-clear mode r _ _ reads).2)
+    reads ∙ ap (Read r) (sym (ltc.read_clear mode r _ _ reads).2)
 
 -- Some elements read as a content exactly where it is taken; as a record and what was found, where a word of it can be found so: as uncorrected, where its
 -- word with the polarity bit 0 has odd zeros. Shut out: a reader that refuses each word, or each uncorrected word; one that reports one fixed address; one that

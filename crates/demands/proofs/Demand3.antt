@@ -59,10 +59,10 @@ not_before_the_fifth = tight forward_only
 
 -- Whatever an impostor gives for each report, be it nothing, a number or one fixed record, it does not follow.
 pub no_impostor : (other : Heard) → Follows (impostors.relaying (impostors.always other)) → ⊥
-no_impostor = impostors.no-impostor settled ForwardOnly Forward demand_3 (omega arith)
+no_impostor = impostors.no_impostor settled ForwardOnly Forward demand_3 (omega arith)
 
 -- And whatever it gives for each uncorrected word in place of its report, be it nothing, 5 or the record as that of a corrected word, it does not follow.
 pub no_impostor_of_uncorrected :
     (other : Record → Heard) → ((r : Record) → other r ≡ Accepted (reporting r Uncorrected Forward) → ⊥)
-    → Follows (impostors.relaying (impostors.uncorrectedAs other)) → ⊥
-no_impostor_of_uncorrected = impostors.no-impostor-of-uncorrected settled ForwardOnly Forward demand_3 (omega arith)
+    → Follows (impostors.relaying (impostors.uncorrected_as other)) → ⊥
+no_impostor_of_uncorrected = impostors.no_impostor_of_uncorrected settled ForwardOnly Forward demand_3 (omega arith)

@@ -19,7 +19,7 @@ use Rattle.bits.specs.Bits.{some_above}
 use Rattle.runs.specs.declared.types.Written.TheVariants.{Done, Refused as Unwritten}
 use Rattle.runs.specs.Run.{same, lacks_room}
 use Rattle.runs.proofs.Same.{same_itself, same_elements}
-use Rattle.runs.proofs.Written.{has_room, room_for}
+use Rattle.runs.proofs.Outcomes.{has_room, room_for}
 use Rattle.words.specs.Words.{wrong_word, low_set, some_word}
 use Rattle.packets.specs.Packet.{header, is_headed, checksum_of, data_in, type_in, is_unknown_type}
 use Rattle.packets.specs.Calls.{form_refusals}

@@ -105,7 +105,7 @@ pub linear_refused_by_11 :
     (make : Found) (mode : ℕ) (r : Record) (start : ℕ) (run : List ℕ)
     → (linear make).Refuses mode r start run 11 ↔ (OnLines mode r × ((r.flags.mark ≡ No) × FirstPicture r → ⊥))
 linear_refused_by_11 make mode r start run =
-    differs (mark_or_second mode r) (eleven.linear-refused-by-11 mode r start run) (on_lines_exactly mode r) (λ ok. (there, back))
+    differs (mark_or_second mode r) (eleven.linear_refused_by_11 mode r start run) (on_lines_exactly mode r) (λ ok. (there, back))
   where
     there : mark_or_second mode r ≡ false → (r.flags.mark ≡ No) × FirstPicture r
     there e =
@@ -119,7 +119,7 @@ pub interval_refused_by_11 :
     (mode : ℕ) (r : Record) (start : ℕ) (run : List ℕ)
     → interval.Refuses mode r start run 11 ↔ (OnLines mode r × (MarkSays mode r → ⊥))
 interval_refused_by_11 mode r start run =
-    differs (unshown mode ByMark r) (eleven.interval-refused-by-11 mode r start run) (on_lines_exactly mode r)
+    differs (unshown mode ByMark r) (eleven.interval_refused_by_11 mode r start run) (on_lines_exactly mode r)
     (λ ok. mark_says_exactly mode r ok.1 ok.0)
 
 pub ancillary_refused_by_11 :
@@ -133,7 +133,7 @@ ancillary_refused_by_11 interface mode c start run =
     let type = c.payload_type in
     let record_is = acceptable_exactly mode r in
     let few : Acceptable mode r → mode ≤ 10 = λ ok. (counted_exactly mode).0 (known ok.counts) in
-    differs (cond (high_rate mode) false (unshown mode (shows_by type) r)) (eleven.ancillary-refused-by-11 mode r interface type c.second start run) (
+    differs (cond (high_rate mode) false (unshown mode (shows_by type) r)) (eleven.ancillary_refused_by_11 mode r interface type c.second start run) (
       λ stands. (let ok = record_is.0 stands.0 in (ok, (payload_exactly mode (few ok) interface type c.second).0 stands.1)),
       λ ok. (record_is.1 ok.0, (payload_exactly mode (few ok.0) interface type c.second).1 ok.1),
     )

@@ -22,7 +22,7 @@ use Rattle.atc.specs.Calls as atc
 use Rattle.demands.specs.Bars.{bars, pair_bars, high_bars, ones_among, packed, Rehearsed}
 
 pub rehearsed : Rehearsed bars
-unfolding bars ones_among packed number_in picture_in fields_in span_in number_of picture_of fields_of span_of value to_bits how_many placed join layout fields_of_record info_of sync_word odd_zeros word_of each ones_from groups payload crc_of line_with vitc.line_of data_words data_word sum9 header checksum_of front_of packet_with count_of distance_of ltc.run_of ltc.writtenRows lacks_entry misnamed atc.run_of unknown uncounted high_rate rate_at pictures_at
+unfolding bars ones_among packed number_in picture_in fields_in span_in number_of picture_of fields_of span_of value to_bits how_many placed join layout fields_of_record info_of sync_word odd_zeros word_of each ones_from groups payload crc_of line_with vitc.line_of data_words data_word sum9 header checksum_of front_of packet_with count_of distance_of ltc.run_of ltc.written_rows lacks_entry misnamed atc.run_of unknown uncounted high_rate rate_at pictures_at
 rehearsed = refl
 
 -- and those of document 02, A4
@@ -32,5 +32,5 @@ pairs_rehearsed = refl
 
 -- and those of A6
 pub high_rates_rehearsed : Rehearsed high_bars
-unfolding high_bars ones_among number_in in_second_in picture_in number_of in_second_of picture_of count_of address_at value to_bits how_many placed join layout fields_of_record info_of each ones_from groups payload crc_of line_with vitc.line_of data_words data_word sum9 header checksum_of front_of packet_with lacks_entry misnamed atc.run_of unknown uncounted high_rate rate_at pictures_at vitc.written_of ltc.written_of ltc.writtenRows atc.written_of span_in plus_in fields_in span_of plus_of fields_of distance_of sum_of atc.read_of is_headed some_above same some_word gathered record_of_bits
+unfolding high_bars ones_among number_in in_second_in picture_in number_of in_second_of picture_of count_of address_at value to_bits how_many placed join layout fields_of_record info_of each ones_from groups payload crc_of line_with vitc.line_of data_words data_word sum9 header checksum_of front_of packet_with lacks_entry misnamed atc.run_of unknown uncounted high_rate rate_at pictures_at vitc.written_of ltc.written_of ltc.written_rows atc.written_of span_in plus_in fields_in span_of plus_of fields_of distance_of sum_of atc.read_of is_headed some_above same some_word gathered record_of_bits
 high_rates_rehearsed = refl

@@ -102,15 +102,15 @@ turns_inside_a_word = turned_run
 -- gives anything but its report for each uncorrected word; nor one that does so even of one word that runs backward: that tells it as forward, say, or with
 -- other groups.
 pub no_impostor_either_way : (way : Way) (other : Heard) → FollowsAfter before_its_last Both way (impostors.relaying (impostors.always other)) → ⊥
-no_impostor_either_way way = impostors.no-impostor before_its_last Both way (demand_3_both_ways way) (omega arith)
+no_impostor_either_way way = impostors.no_impostor before_its_last Both way (demand_3_both_ways way) (omega arith)
 
 pub no_impostor_of_uncorrected_either_way :
     (way : Way) (other : Record → Heard) → ((r : Record) → other r ≡ Accepted (reporting r Uncorrected way) → ⊥)
-    → FollowsAfter before_its_last Both way (impostors.relaying (impostors.uncorrectedAs other)) → ⊥
-no_impostor_of_uncorrected_either_way way = impostors.no-impostor-of-uncorrected before_its_last Both way (demand_3_both_ways way) (omega arith)
+    → FollowsAfter before_its_last Both way (impostors.relaying (impostors.uncorrected_as other)) → ⊥
+no_impostor_of_uncorrected_either_way way = impostors.no_impostor_of_uncorrected before_its_last Both way (demand_3_both_ways way) (omega arith)
 
 pub no_impostor_of_backward :
     (other : Report → Heard) (mode : ℕ) → unknown mode ≡ false → (word : CodeWord mode)
     → (other (reporting word.says word.found Backward) ≡ Accepted (reporting word.says word.found Backward) → ⊥)
-    → FollowsAfter before_its_last Both Backward (impostors.relaying (impostors.backwardAs other)) → ⊥
-no_impostor_of_backward = impostors.no-impostor-of-backward
+    → FollowsAfter before_its_last Both Backward (impostors.relaying (impostors.backward_as other)) → ⊥
+no_impostor_of_backward = impostors.no_impostor_of_backward

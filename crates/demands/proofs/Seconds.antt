@@ -36,17 +36,17 @@ module _ (mode : ℕ) (drop : Flag) where
   both_refused_alike p k = any.alike (with_counting mode (picture_refusals (rate_at mode) (pictures_at mode) drop p)) _ _ k
 
   pub within_a_second : (p : Picture) (s : PictureInSecond) → in_second_in mode drop p ≡ Counted s → s.0 < pictures_at mode * frames_in_second (rate_at mode)
-  within_a_second p s e = any.within-its-second (rate_at mode) (pictures_at mode) drop (some_picture mode) p s (by_row_counted p s e)
+  within_a_second p s e = any.within_its_second (rate_at mode) (pictures_at mode) drop (some_picture mode) p s (by_row_counted p s e)
 
   pub highest_in_a_second :
       (p : Picture) (s : PictureInSecond) → in_second_in mode drop p ≡ Counted s
       → p.address.frames.0 + 1 ≡ frames_in_second (rate_at mode) → p.place + 1 ≡ pictures_at mode → s.0 + 1 ≡ pictures_at mode * frames_in_second (rate_at mode)
-  highest_in_a_second p s e = any.last-of-its-second (rate_at mode) (pictures_at mode) drop (some_picture mode) p s (by_row_counted p s e)
+  highest_in_a_second p s e = any.last_of_its_second (rate_at mode) (pictures_at mode) drop (some_picture mode) p s (by_row_counted p s e)
 
   pub both_count_alike :
       (p q : Picture) → SameSecond p.address q.address → (m n : DayFrame) (s t : PictureInSecond)
       → number_in mode drop p ≡ Number m → number_in mode drop q ≡ Number n → in_second_in mode drop p ≡ Counted s → in_second_in mode drop q ≡ Counted t
       → m.0 + t.0 ≡ n.0 + s.0
   both_count_alike p q same m n s t first second third fourth =
-      any.counts-alike (rate_at mode) (pictures_at mode) drop (some_picture mode) p q same m n s t
+      any.counts_alike (rate_at mode) (pictures_at mode) drop (some_picture mode) p q same m n s t
       (by_row_numbered p m first) (by_row_numbered q n second) (by_row_counted p s third) (by_row_counted q t fourth)

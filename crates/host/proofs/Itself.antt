@@ -78,11 +78,11 @@ module _ (mode : ℕ) (r : Record) (start : ℕ) (run : List ℕ) where
       (make : Found)
       → (ltc_written mode (record_shown r) (found_shown make) start run ≡ written_code (ltc.written_of mode r start run))
       × (ltc_run mode (record_shown r) (found_shown make) start run ≡ ltc.run_of mode r make start run)
-  unfolding ltc_written ltc_run ltc.written_of ltc.run_of ltc.writtenRows
+  unfolding ltc_written ltc_run ltc.written_of ltc.run_of ltc.written_rows
   ltc_itself make =
       let own =
       answered (with_mode mode []) false run (ltc.written_of mode r start run) (ltc.run_of mode r make start run) refl
-      _ (ltc.writtenRows mode r start run) refl refl start (word_of mode r make) refl (written_code (ltc.written_of mode r start run)) refl in
+      _ (ltc.written_rows mode r start run) refl refl start (word_of mode r make) refl (written_code (ltc.written_of mode r start run)) refl in
       rw (record_itself r, found_itself make, record_named r, make_named make) (sym own.0, sym own.1)
 
   pub vitc_itself :
@@ -92,7 +92,7 @@ module _ (mode : ℕ) (r : Record) (start : ℕ) (run : List ℕ) where
   vitc_itself =
       let own =
       answered (with_mode mode []) false run (vitc.written_of mode r start run) (vitc.run_of mode r start run) refl
-      _ (vitc.writtenRows mode r start run) refl refl start (vitc.line_of mode r) refl (written_code (vitc.written_of mode r start run)) refl in
+      _ (vitc.written_rows mode r start run) refl refl start (vitc.line_of mode r) refl (written_code (vitc.written_of mode r start run)) refl in
       rw (record_itself r, record_named r) (sym own.0, sym own.1)
 
 -- packets; a host has an interface as a number
@@ -120,7 +120,7 @@ module _ (mode : ℕ) (interface : Interface) where
   atc_itself r type second start run =
       let own =
       answered (with_counting mode []) false run (atc.written_of mode interface r type second start run) (atc.run_of mode interface r type second start run) refl
-      _ (atc.writtenRows mode interface r type second start run) refl refl start (atc.packetOf mode r type second) refl
+      _ (atc.written_rows mode interface r type second start run) refl refl start (atc.packet_of mode r type second) refl
       (written_code (atc.written_of mode interface r type second start run)) refl in
       rw (record_itself r, record_named r, (interface_itself interface).0, (interface_itself interface).1) (sym own.0, sym own.1)
 

@@ -53,9 +53,9 @@ module _ (mode interface : ℕ) (words : List ℕ) (none : Bool) (asked : none �
   unfolding atc_read before atc.read_of
   answered e face read by is told =
       let same : read ≡ atc.read_of mode (interface_given interface) words = is ∙ rw by in
-      let contents = atc.contentsWith (held_in mode (type_in words) (info_in (data_in words))) (type_in words) (second_in words) in
+      let contents = atc.contents_with (held_in mode (type_in words) (info_in (data_in words))) (type_in words) (second_in words) in
       told
       ∙ ap packet_answer
       (same
-      ∙ named Unopened before _ (atc.readRefusals mode (interface_given interface) words) refl (no_interface interface) (Holds contents)
+      ∙ named Unopened before _ (atc.read_refusals mode (interface_given interface) words) refl (no_interface interface) (Holds contents)
       (atc.read_of mode (interface_given interface) words) (rw (← asked) e) refl)

@@ -114,27 +114,27 @@ module _ (mode drop : ℕ) where
 -- the writes: one list says what is answered and what becomes of the run
 module _ (mode : ℕ) (r : PlainRecord) (start : ℕ) (run : List ℕ) where
   pub ltc_one_list :
-      (make : ℕ) → let rows = with_three 1 (flag_above_1 r || no_make make) (ltc.writtenRows mode (record_given r) start run) in
+      (make : ℕ) → let rows = with_three 1 (flag_above_1 r || no_make make) (ltc.written_rows mode (record_given r) start run) in
       (ltc_written mode r make start run ≡ written_code (written_by rows))
       × (ltc_run mode r make start run ≡ run_after rows start (word_of mode (record_given r) (make_given make)) run)
       × (in_order the_order rows ≡ true)
-  unfolding ltc_written ltc_run ltc.written_of ltc.run_of ltc.writtenRows
+  unfolding ltc_written ltc_run ltc.written_of ltc.run_of ltc.written_rows
   ltc_one_list make =
       let none = flag_above_1 r || no_make make in
-      let rows = ltc.writtenRows mode (record_given r) start run in (
+      let rows = ltc.written_rows mode (record_given r) start run in (
         ap written_code (one_list Refused none Done 1 rows),
         one_list (λ (n : ℕ). run) none (placed start (word_of mode (record_given r) (make_given make)) run) 1 rows,
         refl,
       )
 
   pub vitc_one_list :
-      let rows = with_three 1 (flag_above_1 r) (vitc.writtenRows mode (record_given r) start run) in
+      let rows = with_three 1 (flag_above_1 r) (vitc.written_rows mode (record_given r) start run) in
       (vitc_written mode r start run ≡ written_code (written_by rows))
       × (vitc_run mode r start run ≡ run_after rows start (vitc.line_of mode (record_given r)) run)
       × (in_order the_order rows ≡ true)
   unfolding vitc_written vitc_run vitc.written_of
   vitc_one_list =
-      let rows = vitc.writtenRows mode (record_given r) start run in (
+      let rows = vitc.written_rows mode (record_given r) start run in (
         ap written_code (one_list Refused (flag_above_1 r) Done 1 rows),
         one_list (λ (n : ℕ). run) (flag_above_1 r) (placed start (vitc.line_of mode (record_given r)) run) 1 rows,
         refl,
@@ -144,29 +144,29 @@ pub atc_one_list :
     (mode interface : ℕ) (c : PlainContents) (start : ℕ) (run : List ℕ)
     → let rows =
     with_three 1 (flag_above_1 c.«record» || no_interface interface)
-    (atc.writtenRows mode (interface_given interface) (record_given c.«record») c.payload_type c.second start run) in
+    (atc.written_rows mode (interface_given interface) (record_given c.«record») c.payload_type c.second start run) in
     (atc_written mode interface c start run ≡ written_code (written_by rows))
-    × (atc_run mode interface c start run ≡ run_after rows start (atc.packetOf mode (record_given c.«record») c.payload_type c.second) run)
+    × (atc_run mode interface c start run ≡ run_after rows start (atc.packet_of mode (record_given c.«record») c.payload_type c.second) run)
     × (in_order the_order rows ≡ true)
 unfolding atc_written atc_run atc.written_of atc.run_of
 atc_one_list mode interface c start run =
     let none = flag_above_1 c.«record» || no_interface interface in
-    let rows = atc.writtenRows mode (interface_given interface) (record_given c.«record») c.payload_type c.second start run in (
+    let rows = atc.written_rows mode (interface_given interface) (record_given c.«record») c.payload_type c.second start run in (
       ap written_code (one_list Refused none Done 1 rows),
-      one_list (λ (n : ℕ). run) none (placed start (atc.packetOf mode (record_given c.«record») c.payload_type c.second) run) 1 rows,
+      one_list (λ (n : ℕ). run) none (placed start (atc.packet_of mode (record_given c.«record») c.payload_type c.second) run) 1 rows,
       refl,
     )
 
 -- reading a packet has 3 of its own, for a word above 1,023, and so has a reader that is fed: either makes 3 apply
 pub open_one_list :
     (mode interface : ℕ) (words : List ℕ)
-    → let rows = with_three 2 (no_interface interface) (atc.readRefusals mode (interface_given interface) words) in
-    let carried = atc.contentsWith (held_in mode (type_in words) (info_in (data_in words))) (type_in words) (second_in words) in
+    → let rows = with_three 2 (no_interface interface) (atc.read_refusals mode (interface_given interface) words) in
+    let carried = atc.contents_with (held_in mode (type_in words) (info_in (data_in words))) (type_in words) (second_in words) in
     (atc_read mode interface words ≡ packet_answer (answer Unopened rows (Holds carried))) × (in_order the_order rows ≡ true)
 unfolding atc_read atc.read_of
 open_one_list mode interface words =
-    let rows = atc.readRefusals mode (interface_given interface) words in
-    let carried = atc.contentsWith (held_in mode (type_in words) (info_in (data_in words))) (type_in words) (second_in words) in
+    let rows = atc.read_refusals mode (interface_given interface) words in
+    let carried = atc.contents_with (held_in mode (type_in words) (info_in (data_in words))) (type_in words) (second_in words) in
     (ap packet_answer (one_list Unopened (no_interface interface) (Holds carried) 2 rows), refl)
 
 -- a reader: what it refuses, and ways that are none, in one list, and the reader as it was

@@ -40,6 +40,8 @@ split_join (width ∷ widths) (value ∷ values) small =
     let rest = join widths values in
     rw (above width value rest, low rest width small.0, high rest width small.0)
     (ap (λ (vs : List ℕ). value ∷ vs) (split_join widths values small.1))
+split_join [] (value ∷ values) small = elim small [ ]
+split_join (width ∷ widths) [] small = elim small [ ]
 
 -- and what was taken apart joins again
 pub join_split : (widths : List ℕ) (n : ℕ) → n < 2 ^ total widths → join widths (split widths n) ≡ n
@@ -56,6 +58,8 @@ join_below [] [] small = lit< tt
 join_below (width ∷ widths) (value ∷ values) small =
     rw (above width value (join widths values), add_comm width (total widths), pow-add 2 (total widths) width)
     (digits_lt (join_below widths values small.1) small.0)
+join_below [] (value ∷ values) small = elim small [ ]
+join_below (width ∷ widths) [] small = elim small [ ]
 
 -- each part stands above the widths before it (past the last, both sides are 0)
 pub field_at : (widths : List ℕ) (n k : ℕ) → get_or (split widths n) k 0 ≡ n / 2 ^ total (take k widths) % 2 ^ get_or widths k 0
@@ -74,3 +78,5 @@ ones_join (width ∷ widths) (value ∷ values) small =
     (ones_cat width (join widths values) value small.0
     ∙ ap (λ (n : ℕ). n + ones value) (ones_join widths values small.1)
     ∙ add_comm (all_ones values) (ones value))
+ones_join [] (value ∷ values) small = elim small [ ]
+ones_join (width ∷ widths) [] small = elim small [ ]

@@ -13,7 +13,7 @@ use Rattle.refusals.proofs.ByNumber.{rows_before, clear_at, clear_from, clear_be
 use Rattle.runs.specs.declared.types.Written.{Written}
 use Rattle.runs.specs.declared.types.Written.TheVariants.{Done, Refused as Unwritten}
 use Rattle.runs.specs.Run.{placed, lacks_room}
-use Rattle.runs.proofs.Written.{turned_away, written_there}
+use Rattle.runs.proofs.Outcomes.{turned_away, written_there}
 use Rattle.rates.specs.declared.types.Rate.{Rate}
 use Rattle.rates.specs.declared.types.Flag.TheVariants.{No, Yes}
 use Rattle.rates.specs.Rates.{is_yes}

@@ -54,8 +54,8 @@ module _ (rate : Rate) (drop : Flag) where
   unfolding span_of clock.span_of
   span_alone a b = rw (one_each (number a), one_each (number b), one_day day)
 
-  pub plus_alone : (a : Address) (z : ℤ) → plus_of rate 1 drop (only a) z ≡ with_place 0 (clock.plusOf rate drop a z)
-  unfolding plus_of clock.plusOf
+  pub plus_alone : (a : Address) (z : ℤ) → plus_of rate 1 drop (only a) z ≡ with_place 0 (clock.plus_of rate drop a z)
+  unfolding plus_of clock.plus_of
   plus_alone a z =
       let sum = sum_of day (number a) z in
       rw (one_each (number a), one_day day, div-one sum, mod-one sum)

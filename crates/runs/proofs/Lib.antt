@@ -4,5 +4,5 @@ pub mod Turns
 pub mod Parts
 -- Same      the test of two runs for the same elements, and what gathering tells
 pub mod Same
--- Written   a write is done or refused, and one that is refused leaves every element
-pub mod Written
+-- Outcomes  a write is done or refused, and one that is refused leaves every element
+pub mod Outcomes

@@ -49,6 +49,7 @@ pub some_element_above : (run : List ℕ) (j : ℕ) → j < length run → 1 < g
 unfolding some_above
 some_element_above (x ∷ run) zero h high = rw (lt-ltb 1 x high)
 some_element_above (x ∷ run) (suc j) h high = rw (some_element_above run j (omega arith) high) (or-true (ltb 1 x))
+some_element_above [] j h high = elim h [ ]
 
 module _ (number size : ℕ) where
   pub scatter_begins : (run : List ℕ) → length run ≡ size → Scattering number size run number 0

@@ -2,7 +2,7 @@
 -- Assumes nothing.
 use Rattle.std.proofs.Common.{◌≡◌, ℕ, ◌+◌, ◌*◌, ◌<◌, ◌≤◌, Bool, true, false, List, [], ◌∷◌, length, sym, refl, ◌∙◌, arith, le-ltb, lt-ltb}
 use Rattle.runs.specs.Run.{placed}
-use Rattle.runs.proofs.Written.{unchanged}
+use Rattle.runs.proofs.Outcomes.{unchanged}
 use Rattle.refusals.specs.declared.types.Verdict.{Verdict}
 use Rattle.refusals.specs.declared.types.Verdict.TheVariants.{Sound, Refused as Unsound}
 use Rattle.modes.specs.Modes.{unknown}

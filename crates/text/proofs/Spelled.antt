@@ -29,6 +29,8 @@ spelled (suc (suc k)) (suc m) n h f =
     let fewer : 1 < suc k → 10 ^ (suc k - 1) ≤ n / 10 = λ more. (let same : suc k - 1 ≡ k = omega arith in rw same (omega (arith, ten k))) in
     let rest : IsDigitCount 10 1 (n / 10) (suc k) = (omega arith, omega (arith, f.1, ten (suc k)), fewer) in
     rw (le-ltb n 10 high, lt-ltb (n % 10) 10 (omega arith), spelled (suc k) m (n / 10) (omega arith) rest)
+spelled (suc zero) zero n h f = elim h [ ]
+spelled (suc (suc k)) zero n h f = elim h [ ]
 
 -- a 64-bit number has at most 20 decimal digits
 pub within_twenty : (k n : ℕ) → n < 2 ^ 64 → IsDigitCount 10 1 n k → k ≤ 20

@@ -61,7 +61,7 @@ module _ (mode : ℕ) where
           let own = clear_from outside_the_clock rows clear in
           let inside = place_inside mode r own in
           let used = place_used mode r own in
-          let held = (rate.one-to-one (rate_at mode) n (at_rate (pictures_at mode) r) low).0 (sym (packs_at_rate mode r known inside) ∙ e) in (
+          let held = (rate.one_to_one (rate_at mode) n (at_rate (pictures_at mode) r) low).0 (sym (packs_at_rate mode r known inside) ∙ e) in (
             unpacks_at_rate n known ∙ held ∙ ap (λ (place : ℕ). Holds (at_place place r)) (none_left (pictures_at mode) r.place used),
             place_below (pictures_at mode) r.place (some_picture mode) inside used,
           )
@@ -72,7 +72,7 @@ module _ (mode : ℕ) where
           let place = place_clear (pictures_at mode) r.place held.1 in
           packs_at_rate mode r known place.0
           ∙ ap (λ (left : ℕ). packed_of (rate_at mode) (at_place left r)) (none_left (pictures_at mode) r.place place.1)
-          ∙ (rate.one-to-one (rate_at mode) n (at_place 0 r) low).1 (sym (unpacks_at_rate n known) ∙ held.0)
+          ∙ (rate.one_to_one (rate_at mode) n (at_place 0 r) low).1 (sym (unpacks_at_rate n known) ∙ held.0)
 
   -- the place that is shown is one of the mode's
   shown_below : (shows : Shows) (mark : Flag) → place_shown mode shows mark < pictures_at mode
@@ -95,7 +95,7 @@ module _ (mode : ℕ) where
   shown_held shows n r e =
       let rows = with_mode mode (bits_refusals_in mode n) in
       let taken = accepted_as Unheld (Holds (shown_record mode shows n)) rows (Holds r) rate.no_record e in
-      (otherwise_accepted Unheld (Holds (record_in mode n)) rows taken.0, ap (rate.recordHeld r) taken.1)
+      (otherwise_accepted Unheld (Holds (record_in mode n)) rows taken.0, ap (rate.record_held r) taken.1)
 
   -- a record makes 64 bits and shows its picture exactly where those bits, at the place that is shown, are the record
   pub shown_one_to_one :
@@ -109,7 +109,7 @@ module _ (mode : ℕ) where
           let shown = eqb-true r.place (place_shown mode shows r.flags.mark) (not-false _ written.1) in
           shown_is mode shows n
           ∙ ap (shown_as mode shows) held
-          ∙ ap Holds (rate.at-place-same r (place_shown mode shows r.flags.mark) shown)
+          ∙ ap Holds (rate.at_place_same r (place_shown mode shows r.flags.mark) shown)
 
       back : shown_in mode shows n ≡ Holds r → (packed_in mode r ≡ Bits n) × (unshown mode shows r ≡ false)
       back e =

@@ -32,29 +32,29 @@ module _ (mode : ℕ) (r : Record) where
   Stands = Clear (with_mode mode (write_refusals_in mode r))
 
   pub linear_refused_by_11 :
-      (start : ℕ) (run : List ℕ) → (ltc.written_of mode r start run ≡ Unwritten mark_set) ↔ (Stands × (ltc.markOrSecond mode r ≡ true))
-  unfolding ltc.written_of ltc.writtenRows
+      (start : ℕ) (run : List ℕ) → (ltc.written_of mode r start run ≡ Unwritten mark_set) ↔ (Stands × (ltc.mark_or_second mode r ≡ true))
+  unfolding ltc.written_of ltc.written_rows
   linear_refused_by_11 start run =
-      given_exactly Unwritten Done of_written (λ k. refl) refl mark_set (omega arith) (ltc.writtenRows mode r start run) (linear.written-rows-in-order mode r start run)
+      given_exactly Unwritten Done of_written (λ k. refl) refl mark_set (omega arith) (ltc.written_rows mode r start run) (linear.written_rows_in_order mode r start run)
 
   pub interval_refused_by_11 :
       (start : ℕ) (run : List ℕ) → (vitc.written_of mode r start run ≡ Unwritten mark_set) ↔ (Stands × (unshown mode ByMark r ≡ true))
   unfolding vitc.written_of
   interval_refused_by_11 start run =
-      given_exactly Unwritten Done of_written (λ k. refl) refl mark_set (omega arith) (vitc.writtenRows mode r start run) (interval.written-rows-in-order mode r start run)
+      given_exactly Unwritten Done of_written (λ k. refl) refl mark_set (omega arith) (vitc.written_rows mode r start run) (interval.written_rows_in_order mode r start run)
 
   pub ancillary_refused_by_11 :
       (interface : Interface) (type second start : ℕ) (run : List ℕ)
       → (atc.written_of mode interface r type second start run ≡ Unwritten mark_set)
-      ↔ ((Clear (with_counting mode (record_refusals_for mode r)) × Clear (atc.payloadRefusals mode interface type second))
+      ↔ ((Clear (with_counting mode (record_refusals_for mode r)) × Clear (atc.payload_refusals mode interface type second))
       × (cond (high_rate mode) false (unshown mode (shows_by type) r) ≡ true))
   unfolding atc.written_of
   ancillary_refused_by_11 interface type second start run =
-      let rows = atc.writtenRows mode interface r type second start run in
+      let rows = atc.written_rows mode interface r type second start run in
       let before = rows_before mark_set rows in
       let exactly =
       given_exactly Unwritten Done of_written (λ k. refl) refl mark_set (omega arith) rows
-      (ancillary.written-rows-in-order mode interface r type second start run) in (
+      (ancillary.written_rows_in_order mode interface r type second start run) in (
         λ e. (let clear = (exactly.0 e).0 in (
           (
             (clear_at unknown_mode before clear, clear_from outside_the_clock before clear),

@@ -14,7 +14,7 @@ use Rattle.refusals.proofs.Answered.{Clear, otherwise_accepted, accepted_as}
 use Rattle.refusals.proofs.ByNumber.{clear_at, clear_from, clear_before, clear_whole}
 use Rattle.runs.specs.declared.types.Written.TheVariants.{Done}
 use Rattle.runs.specs.Run.{placed}
-use Rattle.runs.proofs.Written.{done_clear, clear_done, stored, stored_reads, room_for}
+use Rattle.runs.proofs.Outcomes.{done_clear, clear_done, stored, stored_reads, room_for}
 use Rattle.record.specs.declared.types.Record.{Record}
 use Rattle.record.specs.declared.types.Unpacked.TheVariants.{Holds, Refused as Unheld}
 use Rattle.record.specs.declared.types.Packed.TheVariants.{Bits, Refused as Unpackable}

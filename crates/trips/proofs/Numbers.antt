@@ -26,9 +26,9 @@ module _ (mode : ℕ) (drop : Flag) where
   unfolding number_in picture_in
   one_to_one p n = (
     λ e. (let at = answered Unnumbered mode (λ rate pictures. number_of rate pictures drop p) (Number n) no_number e in
-        picture_by_row mode drop n at.0 ∙ (pictures.one-to-one (rate_at mode) (pictures_at mode) drop (some_picture mode) p n).0 at.1),
-    λ e. (let at = answered Unpictured mode (λ rate pictures. picture_of rate pictures drop n) (At p) pictures.no-picture e in
-        number_by_row mode drop p at.0 ∙ (pictures.one-to-one (rate_at mode) (pictures_at mode) drop (some_picture mode) p n).1 at.1),
+        picture_by_row mode drop n at.0 ∙ (pictures.one_to_one (rate_at mode) (pictures_at mode) drop (some_picture mode) p n).0 at.1),
+    λ e. (let at = answered Unpictured mode (λ rate pictures. picture_of rate pictures drop n) (At p) pictures.no_picture e in
+        number_by_row mode drop p at.0 ∙ (pictures.one_to_one (rate_at mode) (pictures_at mode) drop (some_picture mode) p n).1 at.1),
   )
 
   -- "Adding the distance gives the second address back"
@@ -37,4 +37,4 @@ module _ (mode : ℕ) (drop : Flag) where
   adding_the_distance from to z e =
       let at = answered Unmeasured mode (λ rate pictures. span_of rate pictures drop from to) (Frames z) moves.no_span e in
       plus_by_row mode drop from z at.0
-      ∙ moves.adding-the-distance (rate_at mode) (pictures_at mode) drop (some_picture mode) from to z at.1
+      ∙ moves.adding_the_distance (rate_at mode) (pictures_at mode) drop (some_picture mode) from to z at.1

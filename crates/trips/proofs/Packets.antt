@@ -17,7 +17,7 @@ use Rattle.refusals.proofs.Answered.{Clear, neither, otherwise_accepted, accepte
 use Rattle.refusals.proofs.ByNumber.{rows_from, rows_before, clear_at, clear_from, clear_before, clear_whole}
 use Rattle.runs.specs.declared.types.Written.TheVariants.{Done}
 use Rattle.runs.specs.Run.{placed, lacks_room}
-use Rattle.runs.proofs.Written.{done_clear, clear_done, stored, stored_reads, has_room, room_for}
+use Rattle.runs.proofs.Outcomes.{done_clear, clear_done, stored, stored_reads, has_room, room_for}
 use Rattle.record.specs.declared.types.Record.{Record}
 use Rattle.record.specs.declared.types.Packed.TheVariants.{Bits, Refused as Unpackable}
 use Rattle.record.specs.declared.types.Unpacked.TheVariants.{Holds as Held, Refused as Unheld}
@@ -57,7 +57,7 @@ carried_one_to_one mode type n r low = go (high_rate mode) refl
   where
     go : (t : Bool) → high_rate mode ≡ t → (made_for mode type r ≡ Bits n) ↔ (held_for mode type n ≡ Held r)
     go true t = rw (← high_made mode type t r, ← high_held mode type t n) (high_one_to_one mode t n r low)
-    go false t = rw (← low_made mode type t r, ← low_held mode type t n) (line.carried-one-to-one mode (shows_by type) n r low)
+    go false t = rw (← low_made mode type t r, ← low_held mode type t n) (line.carried_one_to_one mode (shows_by type) n r low)
 
 -- the bits of such a record are 64
 bits_below : (mode type : ℕ) (r : Record) → Clear (with_counting mode (carried_refusals mode type r)) → info_for mode r < 2 ^ 64

@@ -19,7 +19,7 @@ use Rattle.bits.proofs.Inverse.{value_below}
 use Rattle.runs.specs.declared.types.Written.TheVariants.{Done}
 use Rattle.runs.specs.Run.{placed}
 use Rattle.runs.proofs.Same.{same_elements}
-use Rattle.runs.proofs.Written.{done_clear, clear_done, stored, stored_reads, has_room, room_for}
+use Rattle.runs.proofs.Outcomes.{done_clear, clear_done, stored, stored_reads, has_room, room_for}
 use Rattle.rates.specs.declared.types.Flag.{Flag}
 use Rattle.rates.specs.declared.types.Flag.TheVariants.{No, Yes}
 use Rattle.rates.specs.Face.{outside}

@@ -1,0 +1,51 @@
+-- `interval::form::judge` meets its contract: the tests that led to each `return` are the rows of the list up to the one that applies, and a
+-- line is sound where none of the three passes found anything.
+-- Assumes nothing.
+use Prim.Native.Nat.{ℕ}
+use mathlib.Core.Path.{◌≡◌}
+use mathlib.Core.Bool.{Bool, true, false, not, ◌||◌}
+use mathlib.Core.List.{List}
+use lib.ListN.{length}
+use borrow.Author.Tests.{not-true, not-false}
+use Rattle.refusals.specs.declared.types.Verdict.TheVariants.{Sound, Refused as Unsound}
+use Rattle.refusals.specs.Answer.{verdict_of}
+use Rattle.refusals.proofs.Answered.{neither}
+use Rattle.bits.specs.Bits.{some_above}
+use Rattle.modes.specs.Modes.{unknown}
+use Rattle.interval.specs.Line.{wrong_pair, wrong_crc}
+use Rattle.interval.specs.Calls.{form_refusals}
+use Rattle.interval.proofs.FormTests.{bad_length, no_mode, too_high, bad_pair, bad_check, all_sound}
+use Rattle.interval.proofs.form.judge.Goals as goal
+
+-- what the three passes told
+module _
+    (mode : ℕ) (line : List ℕ) (long : length line ≡ 90) (past high pair check : Bool) (e2 : past ≡ unknown mode) (known : past ≡ false)
+    (e3 : high ≡ some_above 1 line) (e4 : pair ≡ wrong_pair line) (e5 : check ≡ wrong_crc line) where
+  nothing : not ((high || pair) || check) ≡ true → Sound ≡ verdict_of (form_refusals mode line)
+  nothing t =
+      let early = neither (high || pair) check (not-true ((high || pair) || check) t) in
+      let first = neither high pair early.0 in
+      all_sound mode line long past e2 known high e3 first.0 pair e4 first.1 check e5 early.1
+
+  last : not ((high || pair) || check) ≡ false → high ≡ false → pair ≡ false → Unsound 5 ≡ verdict_of (form_refusals mode line)
+  last some low paired =
+      let left : check ≡ true = rw (low, paired) at (not-false ((high || pair) || check) some) in
+      bad_check mode line long past e2 known high e3 low pair e4 paired check e5 left
+
+pub returns-then-line-ne90 : goal.returns-then-line-ne90
+returns-then-line-ne90 c = search bad_length
+
+pub returns-then-is_unknown : goal.returns-then-is_unknown
+returns-then-is_unknown c = search no_mode
+
+pub returns-then-sound : goal.returns-then-sound
+returns-then-sound c = search nothing
+
+pub returns-then-high : goal.returns-then-high
+returns-then-high c = search too_high
+
+pub returns-then-pair : goal.returns-then-pair
+returns-then-pair c = search bad_pair
+
+pub returns : goal.returns
+returns c = search last

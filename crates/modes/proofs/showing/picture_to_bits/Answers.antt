@@ -1,0 +1,47 @@
+-- `modes::showing::picture_to_bits` meets its contract: what the record answers, and then 11.
+-- Assumes nothing.
+use mathlib.Core.Path.{◌≡◌, sym, ◌∙◌}
+use mathlib.Core.Bool.{Bool, true, false}
+use mathlib.Core.List.{[], ◌∷◌}
+use Prim.Native.Nat.{ℕ}
+use Rattle.refusals.specs.Table.{mark_set}
+use Rattle.refusals.specs.Answer.{◌when◌, answer}
+use Rattle.refusals.proofs.Answered.{otherwise_accepted}
+use Rattle.record.specs.declared.types.Record.{Record}
+use Rattle.record.specs.declared.types.Packed.{Packed}
+use Rattle.record.specs.declared.types.Packed.TheVariants.{Bits, Refused as Unpackable}
+use Rattle.modes.specs.declared.types.Shows.{Shows}
+use Rattle.modes.specs.Modes.{with_mode}
+use Rattle.modes.specs.Calls.{information_in, write_refusals_in, packed_in}
+use Rattle.modes.specs.Shown.{unshown, carried_in}
+use Rattle.modes.proofs.Told.{refused_as, packed_is}
+use Rattle.modes.proofs.showing.picture_to_bits.Goals as goal
+
+module _ (mode : ℕ) (shows : Shows) (r : Record) (packed : Packed) (asked : packed ≡ packed_in mode r) where
+  -- what is left once the record's own rows are clear
+  abbrev last : Packed
+  last = answer Unpackable ((mark_set when unshown mode shows r) ∷ []) (Bits (information_in mode r))
+
+  refused : (n : ℕ) → packed ≡ Unpackable n → Unpackable n ≡ carried_in mode shows r
+  unfolding carried_in
+  refused n e = refused_as mode r Unpackable last n (sym asked ∙ e)
+
+  module _ (info : ℕ) (e : packed ≡ Bits info) (other : Bool) (looked : other ≡ unshown mode shows r) where
+    whole : carried_in mode shows r ≡ last
+    unfolding carried_in
+    whole = otherwise_accepted Unpackable last (with_mode mode (write_refusals_in mode r)) (packed_is mode r info (sym asked ∙ e)).0
+
+    another_picture : other ≡ true → Unpackable 11 ≡ carried_in mode shows r
+    another_picture t = sym (whole ∙ rw (← looked, t))
+
+    made : other ≡ false → Bits info ≡ carried_in mode shows r
+    made f = sym (whole ∙ rw (← looked, f, (packed_is mode r info (sym asked ∙ e)).1))
+
+pub returns-then-is_unshown : goal.returns-then-is_unshown
+returns-then-is_unshown c = search another_picture
+
+pub returns-in-Refused : goal.returns-in-Refused
+returns-in-Refused c = search refused
+
+pub returns-else-is_unshown : goal.returns-else-is_unshown
+returns-else-is_unshown c = search made

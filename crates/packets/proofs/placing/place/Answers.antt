@@ -1,0 +1,64 @@
+-- `packets::placing::place` meets its contract: without a mode or room the run is as it was, and else the packet comes back from the part that was lent.
+-- Assumes nothing.
+use mathlib.Core.Path.{◌≡◌, sym, ◌∙◌}
+use mathlib.Core.Bool.{Bool, true, false}
+use Prim.Native.Nat.{ℕ, ◌+◌, ◌-◌, ◌≤◌}
+use native.Mathlib.Omega.{arith}
+use mathlib.Core.List.{List}
+use lib.ListN.{length}
+use borrow.Author.Rules.{rules}
+use borrow.Rule.Slice.PartMut.{put_mid}
+use Rattle.refusals.specs.Table.{unknown_mode, no_room}
+use Rattle.refusals.specs.Answer.{Refusal}
+use Rattle.runs.specs.declared.types.Written.TheVariants.{Done, Refused as Unwritten}
+use Rattle.runs.specs.Run.{lacks_room, room_refusals}
+use Rattle.runs.proofs.Outcomes.{Outcome, turned_away, written_there, room_told}
+use Rattle.modes.specs.Modes.{uncounted}
+use Rattle.packets.specs.Packet.{packet_with}
+use Rattle.packets.specs.Calls.{place_refusals}
+use Rattle.packets.proofs.Pieces.{length_packet}
+use Rattle.packets.proofs.placing.place.Goals as goal
+
+module _ (mode info type second start : ℕ) (run : List ℕ) (past : Bool) (asked : past ≡ uncounted mode) where
+  abbrev rows : List Refusal
+  rows = place_refusals mode start run
+
+  no_mode : past ≡ true → Outcome rows start (packet_with mode info type second) run (Unwritten 2) run
+  no_mode t = turned_away rows start (packet_with mode info type second) run unknown_mode tt (sym asked ∙ t)
+
+  module _ (known : past ≡ false) (full : Bool) (measured : full ≡ lacks_room 23 start (length run)) where
+    -- the mode is counted, so 12 is the first that can apply
+    counted : uncounted mode ≡ false
+    counted = sym asked ∙ known
+
+    crowded : full ≡ true → Outcome rows start (packet_with mode info type second) run (Unwritten 12) run
+    crowded t = rw counted (turned_away (room_refusals 23 start run) start (packet_with mode info type second) run no_room tt (sym measured ∙ t))
+
+    done : full ≡ false → (part : List ℕ) → part ≡ packet_with mode info type second
+        → Outcome rows start (packet_with mode info type second) run Done (put_mid start ((start + 23) - start) run part)
+    done f part made =
+        written_there rows start (packet_with mode info type second) run (counted, (sym measured ∙ f, tt)) 23 (length_packet mode info type second) part made
+
+-- where room was not lacking, the packet's elements are all there
+room : (c : tie.Else2) → let args = c.before.before.before.before.before.args in args.start + 23 ≤ length args.run.now
+room c = room_told _ _ _ _ c.before.lacks-room.ensures (search rules)
+
+pub returns-then-is_uncounted : goal.returns-then-is_uncounted
+returns-then-is_uncounted c = no_mode _ _ _ _ _ _ _ c.is_uncounted.ensures (search rules)
+
+pub returns-then-lacks_room : goal.returns-then-lacks_room
+returns-then-lacks_room c = crowded _ _ _ _ _ _ _ c.is_uncounted.ensures (search rules) _ c.lacks_room.ensures (search rules)
+
+pub overflow_add-end : goal.overflow_add-end
+overflow_add-end c = omega (arith, room c)
+
+pub offset_bounds-run-start : goal.offset_bounds-run-start
+offset_bounds-run-start c = omega (arith, room c)
+
+pub slice_bounds-store-end : goal.slice_bounds-store-end
+slice_bounds-store-end c = room c
+
+pub returns : goal.returns
+returns c =
+    let args = c.args in
+    done _ _ _ _ args.start args.run.now _ c.is_uncounted.ensures (search rules) _ c.lacks_room.ensures (search rules) _ c.store.ensures

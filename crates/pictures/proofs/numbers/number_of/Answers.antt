@@ -1,0 +1,109 @@
+-- `pictures::numbers::number_of` meets its contract: 8 for the place, then what the clock answers of the address, then 10 for the place, and else the number.
+-- Assumes nothing.
+use mathlib.Core.Path.{◌≡◌, refl, sym, ◌∙◌}
+use mathlib.Core.Bool.{Bool, true, false, not, ◌&&◌}
+use Prim.Native.Nat.{ℕ, ◌+◌, ◌*◌, ◌<◌}
+use native.Mathlib.Omega.{arith}
+use borrow.Author.Rules.{rules}
+use Rattle.refusals.specs.Table.{outside_the_clock, skipped_address, unused_bit_set}
+use Rattle.refusals.specs.Answer.{answer}
+use Rattle.refusals.proofs.Answered.{Clear, otherwise_accepted}
+use Rattle.refusals.proofs.ByNumber.{clear_at}
+use Rattle.rates.specs.declared.types.Rate.{Rate}
+use Rattle.rates.specs.declared.types.Flag.{Flag}
+use Rattle.rates.specs.Rates.{is_yes, frames_in_second, may_drop}
+use Rattle.rates.specs.Face.{outside, skipped}
+use Rattle.rates.specs.Refused.{address_refusals, refusals_of}
+use Rattle.clock.specs.declared.types.DayFrame.{DayFrame}
+use Rattle.clock.specs.declared.types.Numbered.{Numbered}
+use Rattle.clock.specs.declared.types.Numbered.TheVariants.{Number, Refused as Unnumbered}
+use Rattle.clock.specs.Counting.{count_of}
+use Rattle.clock.specs.Calls as clock
+use Rattle.midnight.proofs.Answers as address
+use Rattle.pictures.specs.declared.types.Picture.{Picture}
+use Rattle.pictures.specs.Pictures.{place_outside, place_unused, picture_number}
+use Rattle.pictures.specs.Calls.{picture_refusals, number_of}
+use Rattle.pictures.proofs.Sizes.{count_below, count_fits}
+use Rattle.pictures.proofs.numbers.number_of.Goals as goal
+
+-- what an address is refused with, it is refused with whatever else makes 10 apply
+still_refused :
+    (rate : Rate) (drop out skip unused : Bool) (n : DayFrame) (given : Numbered) (k : ℕ)
+    → answer Unnumbered (address_refusals rate drop out skip false) (Number n) ≡ Unnumbered k
+    → answer Unnumbered (address_refusals rate drop out skip unused) given ≡ Unnumbered k
+still_refused rate drop out skip unused n given k e = go out (may_drop rate && (drop && skip)) refl (drop && not (may_drop rate)) refl unused e
+  where
+    go :
+        (o nine : Bool) → (may_drop rate && (drop && skip)) ≡ nine → (ten : Bool) → (drop && not (may_drop rate)) ≡ ten → (u : Bool)
+        → answer Unnumbered (address_refusals rate drop o skip false) (Number n) ≡ Unnumbered k
+        → answer Unnumbered (address_refusals rate drop o skip u) given ≡ Unnumbered k
+    go true nine s ten d u e = e
+    go false true s ten d u e = rw s (rw s at e)
+    go false false s true d true e = rw s (rw (s, d) at e)
+    go false false s true d false e = rw (s, d) (rw (s, d) at e)
+    go false false s false d u e = absurd (address.no_number k (sym (rw (s, d) at e)))
+
+module _ (rate : Rate) (last : ℕ) (drop : Flag) (p : Picture) (out : Bool) (tested : out ≡ place_outside (last + 1) p.place) where
+  no_place : out ≡ true → Unnumbered 8 ≡ number_of rate (last + 1) drop p
+  unfolding number_of
+  no_place e = rw (← tested, e)
+
+  module _ (inside : out ≡ false) (counted : Numbered) (asked : counted ≡ clock.number_of rate drop p.address) where
+    refused : (k : ℕ) → counted ≡ Unnumbered k → Unnumbered k ≡ number_of rate (last + 1) drop p
+    unfolding number_of clock.number_of
+    refused k e =
+        let a = p.address in
+        let number : DayFrame = record { 0 = count_of (frames_in_second rate) (is_yes drop) a } in
+        let own : Numbered = Number (record { 0 = picture_number (frames_in_second rate) (last + 1) (is_yes drop) p }) in
+        sym (rw (← tested, inside)
+        (still_refused rate (is_yes drop) (outside (frames_in_second rate) a) (skipped a) (place_unused (last + 1) p.place) number own k (sym asked ∙ e)))
+
+    module _ (before : DayFrame) (e : counted ≡ Number before) where
+      own : Clear (refusals_of rate drop p.address) × (count_of (frames_in_second rate) (is_yes drop) p.address ≡ before.0)
+      own = address.numbered rate drop p.address before (sym asked ∙ e)
+
+      small : last < 256 → (last + 1) * before.0 < 663552000
+      small few = count_fits rate (last + 1) before.0 (is_yes drop) (omega arith) (rw own.1 at (count_below rate drop p.address own.0))
+
+      module _ (unused : Bool) (looked : unused ≡ place_unused (last + 1) p.place) where
+        not_used : unused ≡ true → Unnumbered 10 ≡ number_of rate (last + 1) drop p
+        unfolding number_of
+        not_used t =
+            let rows = refusals_of rate drop p.address in
+            rw (← tested, inside, clear_at outside_the_clock rows own.0, clear_at skipped_address rows own.0, ← looked, t)
+
+        numbered : unused ≡ false → Number (record { 0 = (last + 1) * before.0 + p.place }) ≡ number_of rate (last + 1) drop p
+        unfolding number_of
+        numbered f =
+            let rows = refusals_of rate drop p.address in
+            let clear : Clear (picture_refusals rate (last + 1) drop p) = (
+              rw (← tested, inside) (clear_at outside_the_clock rows own.0),
+              (clear_at skipped_address rows own.0, (rw (← looked, f) (clear_at unused_bit_set rows own.0), tt)),
+            ) in
+            rw (← own.1) (sym (otherwise_accepted Unnumbered _ (picture_refusals rate (last + 1) drop p) clear))
+
+pub returns-then-is_place_outside : goal.returns-then-is_place_outside
+returns-then-is_place_outside c = search no_place
+
+pub returns-then-is_place_unused : goal.returns-then-is_place_unused
+returns-then-is_place_unused c = search (refused, not_used, numbered)
+
+pub overflow_mul-number : goal.overflow_mul-number
+overflow_mul-number c =
+    let args = c.args in
+    let few = small args.rate args.last args.drop args.picture _ c.is_place_outside.ensures (search rules) _ c.number_of-counted.ensures _
+    c.counted-in-Number-1.given.1 (search rules) in
+    omega (arith, few)
+
+pub overflow_add-number-in-Number : goal.overflow_add-number-in-Number
+overflow_add-number-in-Number c =
+    let args = c.args in
+    let few = small args.rate args.last args.drop args.picture _ c.is_place_outside.ensures (search rules) _ c.number_of-counted.ensures _
+    c.counted-in-Number-1.given.1 (search rules) in
+    omega (arith, few)
+
+pub returns-in-Refused : goal.returns-in-Refused
+returns-in-Refused c = search (refused, not_used, numbered)
+
+pub returns-else-is_place_unused : goal.returns-else-is_place_unused
+returns-else-is_place_unused c = search (refused, not_used, numbered)

@@ -1,0 +1,35 @@
+-- `plain::answers::heard` meets its contract: nothing and a refusal are a code alone, and what is accepted stands beside its code.
+-- Assumes nothing.
+use mathlib.Core.Path.{◌≡◌}
+use Prim.Native.Nat.{ℕ}
+use Rattle.plain.specs.declared.types.PlainRecord.{PlainRecord}
+use Rattle.plain.specs.Shown.{record_shown}
+use Rattle.plain.specs.declared.types.PlainHeard.{PlainHeard}
+use Rattle.hearing.specs.declared.types.Report.{Report}
+use Rattle.hearing.specs.declared.types.Heard.{Heard}
+use Rattle.hearing.specs.declared.types.Heard.TheVariants.{Nothing, Accepted, Refused}
+use Rattle.plain.specs.Shown.{found_shown, way_shown}
+use Rattle.plain.specs.Answers.{heard_with, heard_shown}
+use Rattle.plain.proofs.answers.heard.Goals as goal
+
+module _ (a : Heard) where
+  module _ (h : PlainHeard) where
+    nothing : a ≡ Nothing → h ≡ heard_shown (Refused 0) → h ≡ heard_shown a
+    nothing e is = rw e is
+
+    refused : (k : ℕ) → a ≡ Refused k → h ≡ heard_shown (Refused k) → h ≡ heard_shown a
+    refused k e is = rw e is
+
+  accepted :
+      (report : Report) (s : PlainRecord) (found way : ℕ) → a ≡ Accepted report → found ≡ found_shown report.found → way ≡ way_shown report.way
+      → s ≡ record_shown report.«record» → heard_with 100 found way s ≡ heard_shown a
+  accepted report s found way e by to is = rw (e, by, to, is)
+
+pub returns-in-Nothing : goal.returns-in-Nothing
+returns-in-Nothing c = search nothing
+
+pub returns-in-Accepted : goal.returns-in-Accepted
+returns-in-Accepted c = search accepted
+
+pub returns-in-Refused : goal.returns-in-Refused
+returns-in-Refused c = search refused

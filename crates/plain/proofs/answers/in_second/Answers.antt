@@ -1,0 +1,22 @@
+-- `plain::answers::in_second` meets its contract: the number, and done; or the refusal and 0.
+-- Assumes nothing.
+use mathlib.Core.Path.{◌≡◌}
+use Prim.Native.Nat.{ℕ}
+use Rattle.pictures.specs.declared.types.PictureInSecond.{PictureInSecond}
+use Rattle.pictures.specs.declared.types.InSecond.{InSecond}
+use Rattle.pictures.specs.declared.types.InSecond.TheVariants.{Number, Refused as Uncounted}
+use Rattle.plain.specs.Answers.{second_answer}
+use Rattle.plain.proofs.answers.in_second.Goals as goal
+
+module _ (a : InSecond) where
+  given : (n : PictureInSecond) → a ≡ Number n → record { code = 0; number = n.0 } ≡ second_answer a
+  given n e = rw e
+
+  refused : (k : ℕ) → a ≡ Uncounted k → record { code = k; number = 0 } ≡ second_answer a
+  refused k e = rw e
+
+pub returns-in-Number : goal.returns-in-Number
+returns-in-Number c = search given
+
+pub returns-in-Refused : goal.returns-in-Refused
+returns-in-Refused c = search refused

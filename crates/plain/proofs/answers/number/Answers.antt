@@ -1,0 +1,22 @@
+-- `plain::answers::number` meets its contract: the number, and done; or the refusal and 0.
+-- Assumes nothing.
+use mathlib.Core.Path.{◌≡◌}
+use Prim.Native.Nat.{ℕ}
+use Rattle.clock.specs.declared.types.DayFrame.{DayFrame}
+use Rattle.clock.specs.declared.types.Numbered.{Numbered}
+use Rattle.clock.specs.declared.types.Numbered.TheVariants.{Number, Refused as Unnumbered}
+use Rattle.plain.specs.Answers.{number_answer}
+use Rattle.plain.proofs.answers.number.Goals as goal
+
+module _ (a : Numbered) where
+  given : (n : DayFrame) → a ≡ Number n → record { code = 0; number = n.0 } ≡ number_answer a
+  given n e = rw e
+
+  refused : (k : ℕ) → a ≡ Unnumbered k → record { code = k; number = 0 } ≡ number_answer a
+  refused k e = rw e
+
+pub returns-in-Number : goal.returns-in-Number
+returns-in-Number c = search given
+
+pub returns-in-Refused : goal.returns-in-Refused
+returns-in-Refused c = search refused

@@ -1,0 +1,14 @@
+-- `plain::given::ways_given` meets its contract: 0 and all else.
+-- Assumes nothing.
+use mathlib.Core.Path.{◌≡◌, refl}
+use Prim.Native.Nat.{ℕ, zero, suc}
+use Rattle.register.specs.declared.types.Ways.TheVariants.{Both}
+use Rattle.plain.specs.Given.{ways_given}
+use Rattle.plain.proofs.given.ways_given.Goals as goal
+
+other : (byte : ℕ) → (byte ≡ 0 → ⊥) → Both ≡ ways_given byte
+other zero no_0 = absurd (no_0 refl)
+other (suc n) no_0 = refl
+
+pub returns : goal.returns
+returns c = search other
