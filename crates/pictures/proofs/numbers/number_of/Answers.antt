@@ -91,15 +91,15 @@ returns-then-is_place_unused c = search (refused, not_used, numbered)
 pub overflow_mul-number : goal.overflow_mul-number
 overflow_mul-number c =
     let args = c.args in
-    let few = small args.rate args.last args.drop args.picture _ c.is_place_outside.ensures (search rules) _ c.number_of-counted.ensures _
-    c.counted-in-Number-1.given.1 (search rules) in
+    let few = small args.rate args.last args.drop args.picture _ c.is_place_outside.ensures (search rules) (Number c.in-Number.before) c.in-Number.ensures _ refl
+    (search rules) in
     omega (arith, few)
 
 pub overflow_add-number-in-Number : goal.overflow_add-number-in-Number
 overflow_add-number-in-Number c =
     let args = c.args in
-    let few = small args.rate args.last args.drop args.picture _ c.is_place_outside.ensures (search rules) _ c.number_of-counted.ensures _
-    c.counted-in-Number-1.given.1 (search rules) in
+    let few = small args.rate args.last args.drop args.picture _ c.is_place_outside.ensures (search rules) (Number c.in-Number.before) c.in-Number.ensures _ refl
+    (search rules) in
     omega (arith, few)
 
 pub returns-in-Refused : goal.returns-in-Refused

@@ -22,5 +22,5 @@ module _ (number count : ℕ) (room : List ℕ) (small : number < 2 ^ 64) (fewes
 
 pub returns : goal.returns
 returns c =
-    let made = c.decimal-count.ensures.1 in
+    let made = c.decimal-count.ensures in
     appended _ _ _ (search rules) made.len made.digits _ _ c.append.ensures
