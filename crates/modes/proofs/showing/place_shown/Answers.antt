@@ -15,9 +15,9 @@ use Rattle.modes.specs.Modes.{pictures_at}
 use Rattle.modes.specs.Shown.{place_shown}
 use Rattle.modes.proofs.showing.place_shown.Goals as goal
 
-bit_of : (mark : Flag) (set : Bool) → set ≡ is_yes mark → bit_of mark ≡ cond set 1 0
-bit_of No set e = rw e
-bit_of Yes set e = rw e
+bit_of_lem : (mark : Flag) (set : Bool) → set ≡ is_yes mark → bit_of mark ≡ cond set 1 0
+bit_of_lem No set e = rw e
+bit_of_lem Yes set e = rw e
 
 module _ (mode : ℕ) (shows : Shows) (mark : Flag) where
   module _ (e : shows ≡ ByMark) (last : ℕ) (share : last + 1 ≡ pictures_at mode) where
@@ -26,10 +26,10 @@ module _ (mode : ℕ) (shows : Shows) (mark : Flag) where
 
     module _ (more : last ≡ 0 → ⊥) (set : Bool) (asked : set ≡ is_yes mark) where
       second : set ≡ true → 1 ≡ place_shown mode shows mark
-      second t = rw (e, ← share, lt-ltb 1 (last + 1) (omega arith), bit_of mark set asked, t)
+      second t = rw (e, ← share, lt-ltb 1 (last + 1) (omega arith), bit_of_lem mark set asked, t)
 
       again_first : set ≡ false → 0 ≡ place_shown mode shows mark
-      again_first t = rw (e, ← share, lt-ltb 1 (last + 1) (omega arith), bit_of mark set asked, t)
+      again_first t = rw (e, ← share, lt-ltb 1 (last + 1) (omega arith), bit_of_lem mark set asked, t)
 
 pub returns-then-last_place-eq0 : goal.returns-then-last_place-eq0
 returns-then-last_place-eq0 c = search alone
