@@ -13,10 +13,8 @@ use Rattle.runs.proofs.Turns.{some_element_above}
 use Rattle.interval.specs.Loops.{Cleaning}
 use Rattle.interval.proofs.Unstopped.{Unstopped, pass_begins, pass_turns, pass_ends}
 use Rattle.interval.proofs.Turns.{clean_begins, clean_turns}
+use Rattle.interval.proofs.form.has_high_element.Invariants.{Looking}
 use Rattle.interval.proofs.form.has_high_element.Goals as goal
-
-abbrev Looking : List ℕ → Bool → ℕ → Type 0
-Looking run high i = (i ≤ length run) × Unstopped high (some_above 1 run) (Cleaning run i)
 
 begun : (run : List ℕ) → Looking run false (length run)
 begun run = (omega arith, pass_begins (some_above 1 run) (clean_begins run))

@@ -25,18 +25,14 @@ module _ (info start : ℕ) (run : List ℕ) (full : Bool) (measured : full ≡ 
   done f part made =
       written_there (room_refusals 90 start run) start (line_with info) run (sym measured ∙ f, tt) 90 (length_line info) part made
 
--- where room was not lacking, the line's elements are all there
-room : (c : tie.Else1) → let args = c.before.before.before.args in args.start + 90 ≤ length args.run.now
-room c = room_told _ _ _ _ c.before.lacks-room.ensures (search rules)
-
 pub returns-then-lacks_room : goal.returns-then-lacks_room
 returns-then-lacks_room c = crowded _ _ _ _ c.lacks_room.ensures (search rules)
 
 pub overflow_add-end : goal.overflow_add-end
-overflow_add-end c = omega (arith, room c)
+overflow_add-end c = omega (arith, room_told _ _ _ _ c.lacks_room.ensures (search rules))
 
 pub slice_bounds-write_line-end : goal.slice_bounds-write_line-end
-slice_bounds-write_line-end c = room c
+slice_bounds-write_line-end c = room_told _ _ _ _ c.lacks_room.ensures (search rules)
 
 pub returns : goal.returns
 returns c =

@@ -55,10 +55,10 @@ pub lay_refused-requires : goal.lay_refused-requires
 lay_refused-requires c = omega (arith, early c.args.bits _ (search rules) c.append_decimal-at-in-Refused.ensures)
 
 pub returns-in-Nothing : goal.returns-in-Nothing
-returns-in-Nothing c = nothing c.args.bits _ c.args.text.now c.enum_told-1.given.1
+returns-in-Nothing c = nothing c.args.bits _ c.args.text.now c.in-Nothing.is
 
 pub returns-in-Accepted : goal.returns-in-Accepted
-returns-in-Accepted c = accepted _ _ (search rules) c.append_decimal-at.ensures _ _ c.heard-1.given.1 c.lay_accepted.ensures
+returns-in-Accepted c = accepted _ _ (search rules) c.append_decimal-at.ensures _ _ c.in-Accepted.is c.lay_accepted.ensures
 
 pub returns-in-Refused : goal.returns-in-Refused
-returns-in-Refused c = refused _ _ (search rules) c.append_decimal-at-in-Refused.ensures _ _ c.heard-in-Refused-1.given.1 c.lay_refused.ensures
+returns-in-Refused c = refused _ _ (search rules) c.append_decimal-at-in-Refused.ensures _ _ c.in-Refused.is c.lay_refused.ensures

@@ -11,31 +11,27 @@ use Rattle.ltc.proofs.WriteTests.{no_mode, by_the_record, with_a_mark, free, wit
 use Rattle.ltc.proofs.writing.write.Goals as goal
 
 pub returns-in_default : goal.returns-in_default
-returns-in_default c = no_mode _ _ _ _ _ _ c.rate_of.ensures _ c.enum_told-1.given.1
+returns-in_default c = no_mode _ _ _ _ _ _ c.rate_of.ensures _ c.in_default.is
 
 pub returns-then-is_yes : goal.returns-then-is_yes
-returns-then-is_yes c = with_a_mark _ _ _ _ _ _ c.rate_of.ensures _ c.rate-1.given.1 _ c.picture_to_bits-packed.ensures _ c.packed-in-Bits-1.given.1 _ c.is_yes.ensures (search rules)
+returns-then-is_yes c = with_a_mark _ _ _ _ _ _ c.rate_of.ensures _ c.in-Known.is _ c.picture_to_bits-packed.ensures _ c.in-Bits.is _ c.is_yes.ensures (search rules)
 
 pub returns-then-lacks_room : goal.returns-then-lacks_room
-returns-then-lacks_room c = without_room _ _ _ _ _ _ c.rate_of.ensures _ c.rate-1.given.1 _ c.picture_to_bits-packed.ensures _ c.packed-in-Bits-1.given.1 _ c.is_yes.ensures (search rules) _ c.lacks_room.ensures (search rules)
+returns-then-lacks_room c = without_room _ _ _ _ _ _ c.rate_of.ensures _ c.in-Known.is _ c.picture_to_bits-packed.ensures _ c.in-Bits.is _ c.is_yes.ensures (search rules) _ c.lacks_room.ensures (search rules)
 
 pub made-info-requires : goal.made-info-requires
-made-info-requires c = free _ 0 _ Corrected [] _ c.rate_of.ensures _ c.rate-1.given.1 _ c.picture_to_bits-packed.ensures _ c.packed-in-Bits-1.given.1 _ c.is_yes.ensures (search rules)
-
--- once the room has been tested, the word ends within the run
-room : (c : tie.After-made) → c.before.before.before.before.before.before.before.before.before.before.before.before.before.before.before.args.start + 80 ≤ length c.before.before.before.before.before.before.before.before.before.before.before.before.before.before.before.args.run.now
-room c = room_told _ _ _ _ c.before.before.lacks-room.ensures (search rules)
+made-info-requires c = free _ 0 _ Corrected [] _ c.rate_of.ensures _ c.in-Known.is _ c.picture_to_bits-packed.ensures _ c.in-Bits.is _ c.is_yes.ensures (search rules)
 
 pub overflow_add-end : goal.overflow_add-end
-overflow_add-end c = omega (arith, room c)
+overflow_add-end c = omega (arith, room_told _ _ _ _ c.lacks_room.ensures (search rules))
 
 pub slice_bounds-store-end : goal.slice_bounds-store-end
-slice_bounds-store-end c = omega (arith, room c)
+slice_bounds-store-end c = omega (arith, room_told _ _ _ _ c.lacks_room.ensures (search rules))
 
 pub returns-in-Refused : goal.returns-in-Refused
-returns-in-Refused c = by_the_record _ _ _ _ _ _ c.rate_of.ensures _ c.rate-1.given.1 _ c.picture_to_bits-packed.ensures _ (search rules)
+returns-in-Refused c = by_the_record _ _ _ _ _ _ c.rate_of.ensures _ c.in-Known.is _ c.picture_to_bits-packed.ensures _ (search rules)
 
 pub returns-else-lacks_room : goal.returns-else-lacks_room
 returns-else-lacks_room c =
-    done _ _ _ _ _ _ c.rate_of.ensures _ c.rate-1.given.1 _ c.picture_to_bits-packed.ensures _ c.packed-in-Bits-1.given.1 _ c.is_yes.ensures (search rules) _ c.lacks_room.ensures (search rules)
+    done _ _ _ _ _ _ c.rate_of.ensures _ c.in-Known.is _ c.picture_to_bits-packed.ensures _ c.in-Bits.is _ c.is_yes.ensures (search rules) _ c.lacks_room.ensures (search rules)
     _ _ c.made-info.ensures c.store.ensures

@@ -39,10 +39,6 @@ module _ (mode info type second start : ℕ) (run : List ℕ) (past : Bool) (ask
     done f part made =
         written_there rows start (packet_with mode info type second) run (counted, (sym measured ∙ f, tt)) 23 (length_packet mode info type second) part made
 
--- where room was not lacking, the packet's elements are all there
-room : (c : tie.Else2) → let args = c.before.before.before.before.before.args in args.start + 23 ≤ length args.run.now
-room c = room_told _ _ _ _ c.before.lacks-room.ensures (search rules)
-
 pub returns-then-is_uncounted : goal.returns-then-is_uncounted
 returns-then-is_uncounted c = no_mode _ _ _ _ _ _ _ c.is_uncounted.ensures (search rules)
 
@@ -50,13 +46,13 @@ pub returns-then-lacks_room : goal.returns-then-lacks_room
 returns-then-lacks_room c = crowded _ _ _ _ _ _ _ c.is_uncounted.ensures (search rules) _ c.lacks_room.ensures (search rules)
 
 pub overflow_add-end : goal.overflow_add-end
-overflow_add-end c = omega (arith, room c)
+overflow_add-end c = omega (arith, room_told _ _ _ _ c.lacks_room.ensures (search rules))
 
 pub offset_bounds-run-start : goal.offset_bounds-run-start
-offset_bounds-run-start c = omega (arith, room c)
+offset_bounds-run-start c = omega (arith, room_told _ _ _ _ c.lacks_room.ensures (search rules))
 
 pub slice_bounds-store-end : goal.slice_bounds-store-end
-slice_bounds-store-end c = room c
+slice_bounds-store-end c = room_told _ _ _ _ c.lacks_room.ensures (search rules)
 
 pub returns : goal.returns
 returns c =

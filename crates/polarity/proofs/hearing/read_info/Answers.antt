@@ -50,7 +50,7 @@ module _ (mode info : ℕ) (rated : Rated) (named : rated ≡ rated_of mode) whe
         accepted r s found e taken_off looked = ap₂ Holds taken_off looked ∙ (ap (with_found (found_in (word_with info))) (sym e) ∙ heard)
 
 pub returns-in_default : goal.returns-in_default
-returns-in_default c = no_mode _ _ _ c.rate_of.ensures _ c.enum_told-1.given.1
+returns-in_default c = no_mode _ _ _ c.rate_of.ensures _ c.in_default.is
 
 pub returns-then-is_miscorrected : goal.returns-then-is_miscorrected
 returns-then-is_miscorrected c = search by_5
