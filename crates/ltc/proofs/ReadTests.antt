@@ -15,7 +15,6 @@ use Rattle.runs.specs.declared.types.Gathered.{Gathered}
 use Rattle.runs.specs.declared.types.Gathered.TheVariants.{Number}
 use Rattle.runs.specs.Gather.{gathered_of}
 use Rattle.runs.specs.Run.{same}
-use Rattle.runs.specs.contracts.types.Gathered.{the_type}
 use Rattle.runs.proofs.Same.{same_itself, gathered_is, not_gathered}
 use Rattle.modes.specs.Modes.{unknown, rate_at}
 use Rattle.polarity.specs.declared.types.Word.{Word}
@@ -25,13 +24,9 @@ use Rattle.polarity.specs.Heard.{heard_of}
 use Rattle.ltc.specs.Calls.{read_of}
 use Rattle.ltc.proofs.Sync.{low_length, high_length, above_in_parts, sync_by_number, other_sync, word_is}
 
--- an answer that is not the first of its cases, as the `else` of a `let` is told it: by the place of the case
+-- an answer that is not the first of its cases, as the `else` of a `let` is told it
 abbrev Another : Gathered → Type 0
-Another answer = (tag_of the_type answer ≡ 1) ⊎ (tag_of the_type answer ≡ 2)
-
-no_number : (answer : Gathered) → Another answer → (n : ℕ) → answer ≡ Number n → ⊥
-no_number answer (inl e) n is = let first = ap (tag_of the_type) is in omega arith
-no_number answer (inr e) n is = let first = ap (tag_of the_type) is in omega arith
+Another answer = (n : ℕ) → answer ≡ Number n → ⊥
 
 module _ (mode : ℕ) (word : List ℕ) where
   pub wrong_size : (length word ≡ 80 → ⊥) → Refused 1 ≡ read_of mode word
@@ -55,13 +50,13 @@ module _ (mode : ℕ) (word : List ℕ) where
       pub no_bit_low : Another low → Refused 3 ≡ read_of mode word
       unfolding read_of
       no_bit_low e =
-          let above = not_gathered (take 64 word) (omega (arith, low_length word long)) (λ n is. no_number low e n (first ∙ is)) in
+          let above = not_gathered (take 64 word) (omega (arith, low_length word long)) (λ n is. e n (first ∙ is)) in
           rw (eq-eqb (length word) 80 long, known, above_in_parts word long, above)
 
       pub no_bit_high : Another high → Refused 3 ≡ read_of mode word
       unfolding read_of
       no_bit_high e =
-          let above = not_gathered (drop 64 word) (omega (arith, high_length word long)) (λ n is. no_number high e n (last ∙ ap gathered_of high_part ∙ is)) in
+          let above = not_gathered (drop 64 word) (omega (arith, high_length word long)) (λ n is. e n (last ∙ ap gathered_of high_part ∙ is)) in
           rw (eq-eqb (length word) 80 long, known, above_in_parts word long, above, or-true (some_above 1 (take 64 word)))
 
       module _ (info sync : ℕ) (is_low : low ≡ Number info) (is_high : high ≡ Number sync) where

@@ -25,21 +25,17 @@ overflow_add-bit-in-loop-n c = omega arith
 pub bounds-line-n : goal.bounds-line-n
 bounds-line-n c = omega arith
 
--- at each turn the number has room for one bit more, and what is read is a bit
-has_room : (c : tie.After-shared-slice-known invariant_loop decreases_loop) → c.before.before.loop.number < 2 ^ 63
-has_room c = search room
-
-is_bit : (c : tie.After-shared-slice-known invariant_loop decreases_loop) → get_or c.before.before.before.args.line.now (place_of (c.before.before.loop.n - 1)) 0 ≤ 1
-is_bit c = search bit
-
 pub overflow_mul-number : goal.overflow_mul-number
-overflow_mul-number c = omega (arith, has_room c)
+overflow_mul-number c = let low : c.loop-n.number < 2 ^ 63 = search room in omega arith
 
 pub overflow_cast-number : goal.overflow_cast-number
-overflow_cast-number c = omega (arith, is_bit c)
+overflow_cast-number c = let one : get_or c.args.line.now (place_of (c.loop-n.n - 1)) 0 ≤ 1 = search bit in omega arith
 
 pub overflow_add-number : goal.overflow_add-number
-overflow_add-number c = omega (arith, has_room c, is_bit c)
+overflow_add-number c =
+    let low : c.loop-n.number < 2 ^ 63 = search room in
+    let one : get_or c.args.line.now (place_of (c.loop-n.n - 1)) 0 ≤ 1 = search bit in
+    omega arith
 
 pub loop-n-smaller : goal.loop-n-smaller
 loop-n-smaller c = omega arith
