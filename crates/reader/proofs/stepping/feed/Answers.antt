@@ -30,8 +30,7 @@ loop-taken-smaller-else-is_answer c = omega arith
 
 pub loop-taken-preserved-else-is_answer : goal.loop-taken-preserved-else-is_answer
 loop-taken-preserved-else-is_answer c =
-    let taken = c.before.before.before in
-    unanswered _ _ _ _ _ _ taken.before.before.before.before.loop.invariant (omega arith) (omega arith) _ taken.pushed.ensures _
+    unanswered _ _ _ _ _ _ c.loop-taken.invariant (omega arith) (omega arith) _ c.pushed-now.ensures _
     c.heard_apart-answer.ensures
     _
     c.is_answer.ensures
