@@ -50,6 +50,7 @@ none_differs : (interface : Interface) → OfLines interface → some_below 64 (
 unfolding lacks_entry entry_among table4 some_below
 none_differs Lines525 lines = refl
 none_differs Lines625 lines = refl
+none_differs HighDefinition lines = elim lines [ ]
 
 -- only the low six bits are looked at
 low_six : (interface : Interface) (second : ℕ) → lacks_entry interface second ≡ lacks_entry interface (second % 64)

@@ -10,8 +10,8 @@ ghost use Rattle.readout.specs.Piece.{PieceTold};
 
 mod types;
 
-use libc::{STDIN_FILENO, STDOUT_FILENO};
 use scribe::{Scribe, Telling, Told};
+use std::io::{Read, Stdin, Stdout, Write};
 use types::Followed;
 
 // A read asks for so many characters, and each has room for its line.
@@ -20,12 +20,11 @@ const PIECE: usize = 4096;
 const LINES: usize = 262_144;
 
 // What is there of the input, told: nothing where it has ended.
-fn told_piece(before: Scribe, piece: &mut [u8], out: &mut [u8]) -> Telling
+fn told_piece(input: &mut Stdin, before: Scribe, piece: &mut [u8], out: &mut [u8]) -> Telling
     requires { Brought before × (64 * length piece.old ≤ length out.old) }
     ensures { PieceTold before out.old result out.new }
 {
-    let got = libc::read(STDIN_FILENO, piece);
-    let count = io::count(got, piece);
+    let count = input.read(piece).unwrap_or(0);
     let told = scribe::tell(before, &mut piece[..count], out);
     match told {
         Told::Lines(telling) => telling,
@@ -37,16 +36,16 @@ fn told_piece(before: Scribe, piece: &mut [u8], out: &mut [u8]) -> Telling
 }
 
 // Piece after piece, until the scribe has ended.
-fn follow(piece: &mut [u8], out: &mut [u8]) -> Followed
+fn follow(input: &mut Stdin, output: &mut Stdout, piece: &mut [u8], out: &mut [u8]) -> Followed
     requires { 64 * length piece.old ≤ length out.old }
     ensures { Brought result.scribe × (result.open ≡ true → result.scribe.left ≡ 0) }
 {
     let mut now = Scribe::fresh();
     while 0 < now.left {
-        let told = told_piece(now, piece, out);
+        let told = told_piece(input, now, piece, out);
         let length = told.length;
         now = told.scribe;
-        if !io::write_all(STDOUT_FILENO, &out[..length]) {
+        if output.write_all(&out[..length]).is_err() {
             return Followed {
                 scribe: now,
                 open: false,
@@ -60,18 +59,20 @@ fn follow(piece: &mut [u8], out: &mut [u8]) -> Followed
 }
 
 // The last line.
-fn end(bits: u64) {
+fn end(output: &mut Stdout, bits: u64) {
     let mut text = [0u8; lines::ROOM];
     let length = lines::end_line(bits, &mut text);
-    io::write_all(STDOUT_FILENO, &text[..length]);
+    let _written = output.write_all(&text[..length]);
 }
 
-fn main() {
-    let mut input = [0u8; PIECE];
-    let mut output = [0u8; LINES];
-    let last = follow(&mut input, &mut output);
+fn main(rt: HostRuntime) {
+    let mut input = rt.stdin();
+    let mut output = rt.stdout();
+    let mut piece = [0u8; PIECE];
+    let mut out = [0u8; LINES];
+    let last = follow(&mut input, &mut output, &mut piece, &mut out);
     let scribe = last.scribe;
     if last.open {
-        end(scribe.bits);
+        end(&mut output, scribe.bits);
     }
 }
