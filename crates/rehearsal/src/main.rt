@@ -13,8 +13,8 @@ mod types;
 
 use answers::put;
 use families::{answer, put_unknown};
-use libc::{STDIN_FILENO, STDOUT_FILENO};
 use requests::LONGEST_LINE;
+use std::io::{Read, Stdin, Stdout, Write};
 use types::{End, Progress};
 
 // The longest answer, to an `atc-write` into 400 words that is refused, has 1,610 characters and a line feed.
@@ -31,18 +31,18 @@ fn answer_kept(line: &[u8], came: usize, out: &mut [u8]) -> usize
 }
 
 // Each answer is written by itself, so that it is there before the next line comes. Whether the output took it.
-fn answer_line(line: &[u8], length: usize) -> bool {
+fn answer_line(output: &mut Stdout, line: &[u8], length: usize) -> bool {
     let mut out = [0u8; ROOM];
     let end = answer_kept(line, length, &mut out);
     let next = put(&mut out, end, b'\n');
-    io::write_all(STDOUT_FILENO, &out[0..next])
+    output.write_all(&out[0..next]).is_ok()
 }
 
-fn take_byte(byte: u8, line: &mut [u8], length: usize) -> Progress {
+fn take_byte(output: &mut Stdout, byte: u8, line: &mut [u8], length: usize) -> Progress {
     if byte == b'\n' {
         return Progress {
             length: 0,
-            open: answer_line(line, length),
+            open: answer_line(output, line, length),
         };
     }
     if length < line.len() {
@@ -58,10 +58,10 @@ fn take_byte(byte: u8, line: &mut [u8], length: usize) -> Progress {
     }
 }
 
-fn take_bytes(piece: &[u8], line: &mut [u8], length: usize) -> Progress {
+fn take_bytes(output: &mut Stdout, piece: &[u8], line: &mut [u8], length: usize) -> Progress {
     let mut now = Progress { length, open: true };
     for i in 0..piece.len() {
-        now = take_byte(piece[i], line, now.length);
+        now = take_byte(output, piece[i], line, now.length);
         if !now.open {
             return now;
         }
@@ -72,7 +72,7 @@ fn take_bytes(piece: &[u8], line: &mut [u8], length: usize) -> Progress {
 // Reads what is there, and answers the lines that end in it before it reads on: a read that brings less than a piece ends nothing. A
 // proved loop has to end, and nothing says that an input does: so it counts its pieces, and stops by itself only after more than any
 // input has.
-fn take_all(line: &mut [u8]) -> End
+fn take_all(input: &mut Stdin, output: &mut Stdout, line: &mut [u8]) -> End
     ensures { 0 < result.came → result.open ≡ true → result.pieces ≡ 18446744073709551615 }
 {
     let mut piece = io::buffer();
@@ -80,8 +80,7 @@ fn take_all(line: &mut [u8]) -> End
     let mut came: usize = 0;
     let mut pieces: u64 = 0;
     while pieces < u64::MAX {
-        let got = libc::read(STDIN_FILENO, &mut piece);
-        came = io::count(got, &piece);
+        came = input.read(&mut piece).unwrap_or(0);
         if came == 0 {
             return End {
                 length,
@@ -90,7 +89,7 @@ fn take_all(line: &mut [u8]) -> End
                 open: true,
             };
         }
-        let now = take_bytes(&piece[0..came], line, length);
+        let now = take_bytes(output, &piece[0..came], line, length);
         length = now.length;
         if !now.open {
             return End {
@@ -110,12 +109,14 @@ fn take_all(line: &mut [u8]) -> End
     }
 }
 
-fn main() {
+fn main(rt: HostRuntime) {
+    let mut input = rt.stdin();
+    let mut output = rt.stdout();
     let mut line = [0u8; LONGEST_LINE];
-    let end = take_all(&mut line);
+    let end = take_all(&mut input, &mut output, &mut line);
     let length = end.length;
     // A last line that no line feed ends.
     if 0 < length {
-        answer_line(&line, length);
+        let _written = answer_line(&mut output, &line, length);
     }
 }

@@ -21,8 +21,8 @@ slice_bounds-write_all-end c = within _ _ c.told_piece-told.ensures
 pub slice_bounds-write_all-end-in-loop-now : goal.slice_bounds-write_all-end-in-loop-now
 slice_bounds-write_all-end-in-loop-now c = sized _ _ c.told_piece-told.ensures
 
-pub returns-then-not-write_all : goal.returns-then-not-write_all
-returns-then-not-write_all c = (goes_on _ _ c.told_piece-told.ensures c.loop-now.invariant.0, λ e. absurd (false≢true e))
+pub returns-then-is_err : goal.returns-then-is_err
+returns-then-is_err c = (goes_on _ _ c.told_piece-told.ensures c.loop-now.invariant.0, λ e. absurd (false≢true e))
 
 pub loop-now-smaller : goal.loop-now-smaller
 loop-now-smaller c = grows_less _ _ c.told_piece-told.ensures (omega arith)

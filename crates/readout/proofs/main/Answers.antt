@@ -10,9 +10,6 @@ use Rattle.readout.proofs.main.Goals as goal
 as_many : (n : ℕ) → n ≡ length {A = ℕ} (replicate n 0)
 as_many n = sym (length-replicate n 0)
 
-room : {p q piece out : ℕ} → p ≡ piece → q ≡ out → 64 * p ≤ q → 64 * piece ≤ out
-room first second enough = omega arith
-
 pub slice_bounds-follow-end : goal.slice_bounds-follow-end
 slice_bounds-follow-end c = as_many _
 
@@ -20,4 +17,4 @@ pub slice_bounds-follow-end-2 : goal.slice_bounds-follow-end-2
 slice_bounds-follow-end-2 c = as_many _
 
 pub follow-last-requires : goal.follow-last-requires
-follow-last-requires c = room (slice_aggregate_follow c) (slice_aggregate_follow_2 c) (omega arith)
+follow-last-requires c = omega arith

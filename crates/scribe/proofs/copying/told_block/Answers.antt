@@ -45,5 +45,5 @@ returns c =
     let line = c.line-length.ensures in
     told _ _ _ _ _ _
     c.block-block.ensures
-    c.wrapping_add_u64-so_far.ensures
+    c.wrapping_add_u64-so_far.ensures.value
     line.0 line.1 c.append-next.ensures
