@@ -55,7 +55,7 @@ use Rattle.atc.specs.Calls.{packet_of, written_of, run_of, read_of as packet_rea
 use Rattle.trips.proofs.Packets as atc
 use Rattle.trips.proofs.Nineteen.{read_refused_by_19, read_refused_by_23, written_refused_by_19, written_refused_by_23}
 use Rattle.demands.specs.Modes.{CountingMode}
-use Rattle.demands.specs.Records.{Acceptable, OnLines, MarkSays}
+use Rattle.demands.specs.Records.{OnLines, MarkSays}
 use Rattle.demands.specs.Table4.{ClaimsImpossibleLine}
 use Rattle.demands.specs.Families.{PayloadType, Names}
 use Rattle.demands.specs.Form.{Form}

@@ -1,7 +1,7 @@
 -- Where an address is clear of refusals the clock shows it, and where it has a number it is clear: said of what the calls answer. That numbers and addresses match one to one
 -- is said in the crate `pictures`, for any number of pictures to an address.
 -- Assumes nothing.
-use Prim.Native.Nat.{ℕ, ◌<◌}
+use Prim.Native.Nat.{ℕ}
 use mathlib.Core.Path.{◌≡◌, refl, sym, ap, ◌∙◌}
 use mathlib.Core.Bool.{Bool, true, false, not, ◌&&◌, true≢false}
 use native.Mathlib.Omega.{arith}

@@ -1,7 +1,7 @@
 -- `readout::main` is safe and ends: a piece of the input has room for its lines. The lengths come by a law, since to compute one takes a step for each
 -- element.
 -- Assumes nothing.
-use Prim.Native.Nat.{ℕ, ◌*◌, ◌≤◌}
+use Prim.Native.Nat.{ℕ}
 use mathlib.Core.Path.{◌≡◌, sym}
 use native.Mathlib.Omega.{arith}
 use lib.ListN.{length, replicate, length-replicate}

@@ -2,7 +2,6 @@
 -- Assumes nothing.
 use mathlib.Core.Path.{sym}
 use mathlib.Core.Bool.{true≢false}
-use Prim.Native.Nat.{◌-◌}
 use Rattle.rehearsal.proofs.take_all.Goals as goal
 
 pub returns-then-not-now : goal.returns-then-not-now

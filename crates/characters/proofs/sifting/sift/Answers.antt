@@ -1,7 +1,6 @@
 -- `characters::sifting::sift` meets its contract. At each turn the bits of the characters read stand at the run's start; what is left to do is
 -- the rest of the run.
 -- Assumes nothing.
-use Prim.Native.Nat.{◌-◌}
 use native.Mathlib.Omega.{arith}
 use lib.ListN.{get_or}
 use Rattle.characters.proofs.Sifts.{behind, sift_begins, sift_long, sift_ends}

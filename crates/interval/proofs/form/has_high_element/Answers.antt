@@ -10,8 +10,7 @@ use lib.ListN.{length, get_or}
 use borrow.Author.Tests.{ltb-true, ltb-false}
 use Rattle.bits.specs.Bits.{some_above}
 use Rattle.runs.proofs.Turns.{some_element_above}
-use Rattle.interval.specs.Loops.{Cleaning}
-use Rattle.interval.proofs.Unstopped.{Unstopped, pass_begins, pass_turns, pass_ends}
+use Rattle.interval.proofs.Unstopped.{pass_begins, pass_turns, pass_ends}
 use Rattle.interval.proofs.Turns.{clean_begins, clean_turns}
 use Rattle.interval.proofs.form.has_high_element.Invariants.{Looking}
 use Rattle.interval.proofs.form.has_high_element.Goals as goal

@@ -1,6 +1,6 @@
 -- `interval::placing::crc` meets its contract. At each turn the number is that of the CRC bits from the i-th on.
 -- Assumes nothing.
-use Prim.Native.Nat.{◌-◌, ◌≤◌}
+use Prim.Native.Nat.{◌≤◌}
 use Rattle.runs.specs.Loops.{Gathering}
 use Rattle.interval.specs.Line.{crc_of}
 use Rattle.interval.proofs.placing.crc.Given as goal

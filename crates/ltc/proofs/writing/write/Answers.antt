@@ -1,9 +1,7 @@
 -- `ltc::writing::write` meets its contract: a refused write leaves the run as it was, and a write that is done has the word in its middle.
 -- Assumes nothing.
-use Prim.Native.Nat.{◌+◌, ◌≤◌}
 use mathlib.Core.List.{[]}
 use native.Mathlib.Omega.{arith}
-use lib.ListN.{length}
 use borrow.Author.Rules.{rules}
 use Rattle.runs.proofs.Outcomes.{room_told}
 use Rattle.polarity.specs.declared.types.Found.TheVariants.{Corrected}

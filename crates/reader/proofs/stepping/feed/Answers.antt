@@ -1,6 +1,5 @@
 -- `reader::stepping::feed` meets its contract. At each turn what is still to come makes the whole block; what is left to do is the way to the end.
 -- Assumes nothing.
-use Prim.Native.Nat.{◌-◌}
 use native.Mathlib.Omega.{arith}
 use borrow.Author.Rules.{rules}
 use Rattle.reader.proofs.Turns.{feeding_ends, stops_before}

@@ -1,6 +1,5 @@
 -- `requests::elements::bits_in` meets its contract. The measure is what is left of the text.
 -- Assumes nothing.
-use Prim.Native.Nat.{◌-◌}
 use native.Mathlib.Omega.{arith}
 use Rattle.requests.proofs.elements.bits_in.Goals as goal
 

@@ -1,6 +1,5 @@
 -- `requests::fields::number_in` meets its contract. The measure is what is left of the text.
 -- Assumes nothing.
-use Prim.Native.Nat.{◌-◌}
 use Rattle.requests.proofs.Told.{told}
 use borrow.Author.Rules.{rules}
 use Rattle.requests.proofs.fields.number_in.Goals as goal

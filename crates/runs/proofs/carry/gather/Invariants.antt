@@ -1,7 +1,6 @@
 -- `runs::carry::gather` meets its contract. At each turn the number is that of the elements from the i-th on, none of them above 1;
 -- what is left to do is i.
 -- Assumes nothing.
-use Prim.Native.Nat.{◌-◌}
 use Rattle.runs.specs.Loops.{Gathering}
 use Rattle.runs.proofs.carry.gather.Given as goal
 

@@ -1,6 +1,6 @@
 -- `text::laying::lay` meets its contract. At each turn the first i elements of the text are in their places; what is left to do is the rest of it.
 -- Assumes nothing.
-use Prim.Native.Nat.{ℕ, ◌+◌, ◌-◌, ◌<◌}
+use Prim.Native.Nat.{ℕ, ◌+◌, ◌<◌}
 use mathlib.Core.List.{List}
 use native.Mathlib.Omega.{arith}
 use lib.ListN.{length}

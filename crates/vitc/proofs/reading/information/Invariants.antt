@@ -1,6 +1,6 @@
 -- `vitc::reading::information` meets its contract. At each turn the number is that of the information bits from the n-th on.
 -- Assumes nothing.
-use Prim.Native.Nat.{◌-◌, ◌≤◌}
+use Prim.Native.Nat.{◌≤◌}
 use Rattle.runs.specs.Loops.{Gathering}
 use Rattle.interval.specs.Line.{information_of}
 use Rattle.vitc.proofs.reading.information.Given as goal
