@@ -1,4 +1,4 @@
-// The kinds' constants together: a definition can't name a constant of the code, so these promises are what holds each of them.
+// The kinds' constants together: no definition names a constant of the code, so these promises are what holds each of them.
 ghost use Rattle.std.specs.Prelude.{◌≡◌};
 ghost use Rattle.kinds.specs.Constants.{kind_constants, pair_constants, high_constants};
 

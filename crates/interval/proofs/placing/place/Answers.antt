@@ -2,7 +2,7 @@
 -- Assumes nothing.
 use mathlib.Core.Path.{◌≡◌, sym, ◌∙◌}
 use mathlib.Core.Bool.{Bool, true, false}
-use Prim.Native.Nat.{ℕ, ◌+◌, ◌-◌}
+use Prim.Native.Nat.{ℕ, ◌+◌, ◌-◌, ◌≤◌}
 use native.Mathlib.Omega.{arith}
 use mathlib.Core.List.{List}
 use lib.ListN.{length}
@@ -15,6 +15,7 @@ use Rattle.runs.proofs.Outcomes.{Outcome, turned_away, written_there, room_told}
 use Rattle.interval.specs.Line.{line_with}
 use Rattle.interval.proofs.Shape.{length_line}
 use Rattle.interval.proofs.placing.place.Goals as goal
+use Rattle.interval.proofs.placing.place.Goals.{Else-lacks_room}
 
 module _ (info start : ℕ) (run : List ℕ) (full : Bool) (measured : full ≡ lacks_room 90 start (length run)) where
   crowded : full ≡ true → Outcome (room_refusals 90 start run) start (line_with info) run (Unwritten 12) run
@@ -25,14 +26,18 @@ module _ (info start : ℕ) (run : List ℕ) (full : Bool) (measured : full ≡ 
   done f part made =
       written_there (room_refusals 90 start run) start (line_with info) run (sym measured ∙ f, tt) 90 (length_line info) part made
 
+-- where room was not lacking, the line's elements are all there
+room : (c : Else-lacks_room) → c.args.start + 90 ≤ length c.args.run.now
+room c = room_told _ _ _ _ c.lacks_room.ensures (search rules)
+
 pub returns-then-lacks_room : goal.returns-then-lacks_room
 returns-then-lacks_room c = crowded _ _ _ _ c.lacks_room.ensures (search rules)
 
 pub overflow_add-end : goal.overflow_add-end
-overflow_add-end c = omega (arith, room_told _ _ _ _ c.lacks_room.ensures (search rules))
+overflow_add-end c = omega (arith, room c)
 
 pub slice_bounds-write_line-end : goal.slice_bounds-write_line-end
-slice_bounds-write_line-end c = room_told _ _ _ _ c.lacks_room.ensures (search rules)
+slice_bounds-write_line-end c = room c
 
 pub returns : goal.returns
 returns c =

@@ -1,12 +1,19 @@
 -- `ltc::writing::write` meets its contract: a refused write leaves the run as it was, and a write that is done has the word in its middle.
 -- Assumes nothing.
 use mathlib.Core.List.{[]}
+use Prim.Native.Nat.{◌+◌, ◌≤◌}
+use lib.ListN.{length}
 use native.Mathlib.Omega.{arith}
 use borrow.Author.Rules.{rules}
 use Rattle.runs.proofs.Outcomes.{room_told}
 use Rattle.polarity.specs.declared.types.Found.TheVariants.{Corrected}
 use Rattle.ltc.proofs.WriteTests.{no_mode, by_the_record, with_a_mark, free, without_room, done}
 use Rattle.ltc.proofs.writing.write.Goals as goal
+use Rattle.ltc.proofs.writing.write.Goals.{Else-lacks_room}
+
+-- where room was not lacking, the word's elements are all there
+room : (c : Else-lacks_room) → c.args.start + 80 ≤ length c.args.run.now
+room c = room_told _ _ _ _ c.lacks_room.ensures (search rules)
 
 pub returns-in_default : goal.returns-in_default
 returns-in_default c = no_mode _ _ _ _ _ _ c.rate_of.ensures _ c.in_default.is
@@ -21,10 +28,10 @@ pub made-info-requires : goal.made-info-requires
 made-info-requires c = free _ 0 _ Corrected [] _ c.rate_of.ensures _ c.in-Known.is _ c.picture_to_bits-packed.ensures _ c.in-Bits.is _ c.is_yes.ensures (search rules)
 
 pub overflow_add-end : goal.overflow_add-end
-overflow_add-end c = omega (arith, room_told _ _ _ _ c.lacks_room.ensures (search rules))
+overflow_add-end c = omega (arith, room (goal.at.overflow_add-end c).Else-lacks_room)
 
 pub slice_bounds-store-end : goal.slice_bounds-store-end
-slice_bounds-store-end c = omega (arith, room_told _ _ _ _ c.lacks_room.ensures (search rules))
+slice_bounds-store-end c = omega (arith, room (goal.at.slice_bounds-store-end c).Else-lacks_room)
 
 pub returns-in-Refused : goal.returns-in-Refused
 returns-in-Refused c = by_the_record _ _ _ _ _ _ c.rate_of.ensures _ c.in-Known.is _ c.picture_to_bits-packed.ensures _ (search rules)

@@ -2,7 +2,7 @@
 -- Assumes nothing.
 use mathlib.Core.Path.{◌≡◌, sym, ◌∙◌}
 use mathlib.Core.Bool.{Bool, true, false}
-use Prim.Native.Nat.{ℕ, ◌+◌, ◌-◌}
+use Prim.Native.Nat.{ℕ, ◌+◌, ◌-◌, ◌≤◌}
 use native.Mathlib.Omega.{arith}
 use mathlib.Core.List.{List}
 use lib.ListN.{length}
@@ -18,6 +18,7 @@ use Rattle.packets.specs.Packet.{packet_with}
 use Rattle.packets.specs.Calls.{place_refusals}
 use Rattle.packets.proofs.Pieces.{length_packet}
 use Rattle.packets.proofs.placing.place.Goals as goal
+use Rattle.packets.proofs.placing.place.Goals.{Else-lacks_room}
 
 module _ (mode info type second start : ℕ) (run : List ℕ) (past : Bool) (asked : past ≡ uncounted mode) where
   abbrev rows : List Refusal
@@ -39,6 +40,10 @@ module _ (mode info type second start : ℕ) (run : List ℕ) (past : Bool) (ask
     done f part made =
         written_there rows start (packet_with mode info type second) run (counted, (sym measured ∙ f, tt)) 23 (length_packet mode info type second) part made
 
+-- where room was not lacking, the packet's elements are all there
+room : (c : Else-lacks_room) → c.args.start + 23 ≤ length c.args.run.now
+room c = room_told _ _ _ _ c.lacks_room.ensures (search rules)
+
 pub returns-then-is_uncounted : goal.returns-then-is_uncounted
 returns-then-is_uncounted c = no_mode _ _ _ _ _ _ _ c.is_uncounted.ensures (search rules)
 
@@ -46,13 +51,13 @@ pub returns-then-lacks_room : goal.returns-then-lacks_room
 returns-then-lacks_room c = crowded _ _ _ _ _ _ _ c.is_uncounted.ensures (search rules) _ c.lacks_room.ensures (search rules)
 
 pub overflow_add-end : goal.overflow_add-end
-overflow_add-end c = omega (arith, room_told _ _ _ _ c.lacks_room.ensures (search rules))
+overflow_add-end c = omega (arith, room c)
 
 pub offset_bounds-run-start : goal.offset_bounds-run-start
-offset_bounds-run-start c = omega (arith, room_told _ _ _ _ c.lacks_room.ensures (search rules))
+offset_bounds-run-start c = omega (arith, room c)
 
 pub slice_bounds-store-end : goal.slice_bounds-store-end
-slice_bounds-store-end c = room_told _ _ _ _ c.lacks_room.ensures (search rules)
+slice_bounds-store-end c = room c
 
 pub returns : goal.returns
 returns c =
