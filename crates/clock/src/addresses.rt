@@ -6,11 +6,11 @@ ghost use Rattle.clock.specs.Counting.{place_at, address_at};
 ghost use Rattle.clock.specs.Calls.{address_of, fields_of, plus_of};
 
 use crate::counting::count;
-use crate::types::{DayFrame, Placed};
+use crate::types::DayFrame;
 use rates::{
     Address, Flag, Rate, SecondFrame, frames_in_day, frames_in_second, is_yes, judge, may_drop,
 };
-use refusals::Verdict;
+use refusals::Refusal;
 
 // The place of a number on a clock that skips nothing.
 fn place(drop: bool, number: DayFrame) -> u32
@@ -50,18 +50,18 @@ fn address_at(rate: Rate, drop: bool, number: DayFrame) -> Address
     }
 }
 
-pub fn address_of(rate: Rate, drop: Flag, number: DayFrame) -> Placed
+pub fn address_of(rate: Rate, drop: Flag, number: DayFrame) -> Result<Address, Refusal>
     ensures { result ≡ address_of rate drop number }
 {
     let dropped = is_yes(drop);
     let unused = dropped & !may_drop(rate);
     if unused {
-        return Placed::Refused(refusals::UNUSED_BIT_SET);
+        return Err(Refusal::UnusedBitSet);
     }
     if frames_in_day(rate, dropped) <= number.0 {
-        return Placed::Refused(refusals::NUMBER_PAST_THE_DAY);
+        return Err(Refusal::NumberPastTheDay);
     }
-    Placed::At(address_at(rate, dropped, number))
+    Ok(address_at(rate, dropped, number))
 }
 
 pub fn address_from(
@@ -71,7 +71,7 @@ pub fn address_from(
     minutes: u8,
     seconds: u8,
     frames: SecondFrame,
-) -> Placed
+) -> Result<Address, Refusal>
     ensures { result ≡ fields_of rate drop (showing hours minutes seconds frames.0) }
 {
     let fields = Address {
@@ -80,25 +80,17 @@ pub fn address_from(
         seconds,
         frames,
     };
-    let found = judge(rate, drop, fields, false, false);
-    match found {
-        Verdict::Refused(number) => Placed::Refused(number),
-        Verdict::Sound => Placed::At(fields),
-    }
+    judge(rate, drop, fields, false, false)?;
+    Ok(fields)
 }
 
-pub fn add(rate: Rate, drop: Flag, address: Address, frames: i32) -> Placed
+pub fn add(rate: Rate, drop: Flag, address: Address, frames: i32) -> Result<Address, Refusal>
     ensures { result ≡ plus_of rate drop address frames }
 {
-    let found = judge(rate, drop, address, false, false);
-    match found {
-        Verdict::Refused(number) => Placed::Refused(number),
-        Verdict::Sound => {
-            let dropped = is_yes(drop);
-            let last = frames_in_day(rate, dropped) - 1;
-            let start = count(rate, dropped, address);
-            let number = DayFrame(round::sum(last, start.0, frames));
-            Placed::At(address_at(rate, dropped, number))
-        }
-    }
+    judge(rate, drop, address, false, false)?;
+    let dropped = is_yes(drop);
+    let last = frames_in_day(rate, dropped) - 1;
+    let start = count(rate, dropped, address);
+    let number = DayFrame(round::sum(last, start.0, frames));
+    Ok(address_at(rate, dropped, number))
 }

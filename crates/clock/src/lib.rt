@@ -13,4 +13,4 @@ mod types;
 
 pub use addresses::{add, address_from, address_of};
 pub use numbers::{distance, number_of};
-pub use types::{DayFrame, Numbered, Placed, Span};
+pub use types::DayFrame;

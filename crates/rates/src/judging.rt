@@ -7,7 +7,7 @@ ghost use Rattle.rates.specs.Refused.{address_refusals, refusals_besides, refusa
 
 use crate::table::{frames_in_second, is_yes, may_drop};
 use crate::types::{Address, Flag, Rate};
-use refusals::Verdict;
+use refusals::Refusal;
 
 fn is_outside(rate: Rate, a: Address) -> bool
     ensures { result ≡ outside (frames_in_second rate) a }
@@ -26,33 +26,40 @@ fn is_skipped(a: Address) -> bool
 
 // What an address, or two at one rate, are turned away with: `out` where 8 applies, `skip` where drop-frame skips, `unused` where a bit besides drop, or a place, is set
 // that is not used.
-fn verdict(rate: Rate, drop: bool, out: bool, skip: bool, unused: bool) -> Verdict
+fn verdict(rate: Rate, drop: bool, out: bool, skip: bool, unused: bool) -> Result<(), Refusal>
     ensures { result ≡ verdict_of (address_refusals rate drop out skip unused) }
 {
     let drops = may_drop(rate);
     let nine = drops & (drop & skip);
     let ten = unused | (drop & !drops);
     if out {
-        return Verdict::Refused(refusals::OUTSIDE_THE_CLOCK);
+        return Err(Refusal::OutsideTheClock);
     }
     if nine {
-        return Verdict::Refused(refusals::SKIPPED_ADDRESS);
+        return Err(Refusal::SkippedAddress);
     }
     if ten {
-        return Verdict::Refused(refusals::UNUSED_BIT_SET);
+        return Err(Refusal::UnusedBitSet);
     }
-    Verdict::Sound
+    Ok(())
 }
 
 // `bad` and `unused` are no concern of the address's: what else makes 8 apply, and 10.
-pub fn judge(rate: Rate, drop: Flag, a: Address, bad: bool, unused: bool) -> Verdict
+pub fn judge(rate: Rate, drop: Flag, a: Address, bad: bool, unused: bool) -> Result<(), Refusal>
     ensures { result ≡ verdict_of (refusals_besides bad unused rate drop a) }
 {
     let out = bad | is_outside(rate, a);
     verdict(rate, is_yes(drop), out, is_skipped(a), unused)
 }
 
-pub fn judge_two(rate: Rate, drop: Flag, a: Address, b: Address, bad: bool, unused: bool) -> Verdict
+pub fn judge_two(
+    rate: Rate,
+    drop: Flag,
+    a: Address,
+    b: Address,
+    bad: bool,
+    unused: bool,
+) -> Result<(), Refusal>
     ensures { result ≡ verdict_of (refusals_of_two_besides bad unused rate drop a b) }
 {
     let out = bad | (is_outside(rate, a) | is_outside(rate, b));

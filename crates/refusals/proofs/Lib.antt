@@ -1,5 +1,7 @@
 -- Answered  what a list of refusals answers: what is accepted where none applies, and only there
 pub mod Answered
+-- Same      two refusals are the same where their numbers are
+pub mod Same
 -- ByNumber  a fact about a clear list is found by its number
 pub mod ByNumber
 -- First     of a list that follows an order, the first number of the order that applies is given

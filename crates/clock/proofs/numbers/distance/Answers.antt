@@ -9,40 +9,39 @@ use mir.Syntax.{w32, w64}
 use mir.Val.{SFits, to_z, of_z}
 use mir.Facts.{to_z-of_z}
 use borrow.Author.Rules.{rules}
+use Rattle.refusals.specs.declared.types.Refusal.{Refusal}
+use Rattle.std.specs.Prelude.{Err, Ok, Result}
 use Rattle.rates.specs.declared.types.Rate.{Rate}
 use Rattle.rates.specs.declared.types.Flag.{Flag}
 use Rattle.rates.specs.declared.types.Address.{Address}
 use Rattle.refusals.specs.Answer.{verdict_of}
 use Rattle.round.specs.Round.{distance_of}
 use Rattle.round.proofs.Sizes.{distance_small}
-use Rattle.refusals.specs.declared.types.Verdict.{Verdict}
-use Rattle.refusals.specs.declared.types.Verdict.TheVariants.{Sound, Refused as Unsound}
-use Rattle.clock.specs.declared.types.Span.TheVariants.{Frames, Refused as Unmeasured}
 use Rattle.rates.specs.Rates.{is_yes, frames_in_second, frames_in_day}
 use Rattle.clock.specs.Counting.{count_of}
 use Rattle.rates.specs.Refused.{refusals_of_two}
 use Rattle.clock.specs.Calls.{span_of}
-use Rattle.refusals.proofs.Verdicts.{refused_by, passed_by}
+use Rattle.refusals.proofs.Verdicts.{passed_on, refused_by, passed_by}
 use Rattle.rates.proofs.Sizes.{day_small, some_day, last_and_one}
 use Rattle.clock.proofs.Sizes.{count_small}
 use Rattle.clock.proofs.numbers.distance.Goals as goal
 
 module _
-    (rate : Rate) (drop : Flag) (from to : Address) (found : Verdict) (judged : found ≡ verdict_of (refusals_of_two rate drop from to)) where
-  refused : (n : ℕ) → found ≡ Unsound n → Unmeasured n ≡ span_of rate drop from to
+    (rate : Rate) (drop : Flag) (from to : Address) (found : Result Unit Refusal) (judged : found ≡ verdict_of (refusals_of_two rate drop from to)) where
+  refused : (n : Refusal) → found ≡ Err n → Err n ≡ span_of rate drop from to
   unfolding span_of
-  refused n e = refused_by Unmeasured _ (refusals_of_two rate drop from to) found judged n e
+  refused n e = refused_by Err _ (refusals_of_two rate drop from to) found judged n e
 
   -- the distance is told as it was measured: it fits 64 bits, and 32
   measured :
       (day m n : ℕ) (dropped : Bool) (z : ℤ) → SFits w64 z → SFits w32 z → z ≡ distance_of (day - 1 + 1) m n → day ≡ frames_in_day rate dropped
-      → m ≡ count_of (frames_in_second rate) dropped from → n ≡ count_of (frames_in_second rate) dropped to → dropped ≡ is_yes drop → found ≡ Sound
-      → Frames (to_z w32 (of_z w32 (to_z w64 (of_z w64 z)))) ≡ span_of rate drop from to
+      → m ≡ count_of (frames_in_second rate) dropped from → n ≡ count_of (frames_in_second rate) dropped to → dropped ≡ is_yes drop → found ≡ Ok tt
+      → Ok (to_z w32 (of_z w32 (to_z w64 (of_z w64 z)))) ≡ span_of rate drop from to
   unfolding span_of
   measured day m n dropped z wide narrow e whole first second asked sound =
       let same : to_z w32 (of_z w32 (to_z w64 (of_z w64 z))) ≡ z = rw (to_z-of_z wide) (to_z-of_z narrow) in
-      ap Frames (same ∙ e ∙ rw (last_and_one rate day dropped whole, whole, first, second, asked))
-      ∙ passed_by Unmeasured _ (refusals_of_two rate drop from to) found judged sound
+      ap Ok (same ∙ e ∙ rw (last_and_one rate day dropped whole, whole, first, second, asked))
+      ∙ passed_by Err _ (refusals_of_two rate drop from to) found judged sound
 
 -- the distance of two addresses fits 32 bits
 narrow :
@@ -58,8 +57,8 @@ overflow_sub-last c = search some_day
 pub overflow_cast-frames : goal.overflow_cast-frames
 overflow_cast-frames c = search (narrow, count_small, rules)
 
-pub returns-in-Refused : goal.returns-in-Refused
-returns-in-Refused c = search refused
+pub returns-in_err-judge_two : goal.returns-in_err-judge_two
+returns-in_err-judge_two c = passed_on c.from_residual.ensures.1 (search (refused, c.in_err-judge_two.was))
 
-pub returns-in-Sound : goal.returns-in-Sound
-returns-in-Sound c = search (measured, narrow, count_small, rules)
+pub returns : goal.returns
+returns c = search (measured, narrow, count_small, rules, c.in_ok-judge_two.was)

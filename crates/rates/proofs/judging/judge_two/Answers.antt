@@ -2,18 +2,19 @@
 -- Assumes nothing.
 use mathlib.Core.Path.{◌≡◌, ◌∙◌}
 use mathlib.Core.Bool.{Bool, ◌||◌}
+use Rattle.refusals.specs.declared.types.Refusal.{Refusal}
+use Rattle.std.specs.Prelude.{Result}
 use Rattle.rates.specs.declared.types.Rate.{Rate}
 use Rattle.rates.specs.declared.types.Flag.{Flag}
 use Rattle.rates.specs.declared.types.Address.{Address}
 use Rattle.refusals.specs.Answer.{verdict_of}
-use Rattle.refusals.specs.declared.types.Verdict.{Verdict}
 use Rattle.rates.specs.Rates.{is_yes, frames_in_second}
 use Rattle.rates.specs.Face.{outside, skipped}
 use Rattle.rates.specs.Refused.{address_refusals, refusals_of_two_besides}
 use Rattle.rates.proofs.judging.judge_two.Goals as goal
 
 judged :
-    (rate : Rate) (drop : Flag) (a b : Address) (bad unused dropped out out' skip skip' : Bool) (found : Verdict)
+    (rate : Rate) (drop : Flag) (a b : Address) (bad unused dropped out out' skip skip' : Bool) (found : Result Unit Refusal)
     → dropped ≡ is_yes drop → out ≡ outside (frames_in_second rate) a → out' ≡ outside (frames_in_second rate) b
     → skip ≡ skipped a → skip' ≡ skipped b
     → found ≡ verdict_of (address_refusals rate dropped (bad || (out || out')) (skip || skip') unused)
