@@ -4,18 +4,16 @@ use mathlib.Core.Path.{◌≡◌, refl, sym, ◌∙◌}
 use mathlib.Core.Bool.{true, false}
 use Prim.Native.Nat.{ℕ}
 use mathlib.Core.List.{List}
-use Rattle.refusals.specs.Table.{unknown_mode, outside_the_clock, no_room}
-use Rattle.refusals.specs.declared.types.Verdict.TheVariants.{Sound, Refused as Unsound}
-use Rattle.refusals.specs.Answer.{Refusal, answer, verdict_of}
+use Rattle.refusals.specs.declared.types.Refusal.{Refusal}
+use Rattle.std.specs.Prelude.{Err, Ok, Result}
+use Rattle.refusals.specs.declared.types.Refusal.TheVariants.{NoRoom, OutsideTheClock, UnknownMode}
+use Rattle.refusals.specs.Answer.{Cause, answer, verdict_of}
 use Rattle.refusals.proofs.Answered.{Clear, otherwise_accepted}
 use Rattle.refusals.proofs.ByNumber.{rows_from, rows_before, clear_from, clear_whole, answer_from}
 use Rattle.refusals.proofs.Verdicts.{refused_by, sound_clear}
-use Rattle.runs.specs.declared.types.Written.{Written}
-use Rattle.runs.specs.declared.types.Written.TheVariants.{Refused as Unwritten}
 use Rattle.runs.specs.Run.{written_by, run_after, room_refusals}
 use Rattle.runs.proofs.Outcomes.{turned_away}
 use Rattle.record.specs.declared.types.Record.{Record}
-use Rattle.record.specs.declared.types.Packed.TheVariants.{Bits, Refused as Unpackable}
 use Rattle.modes.specs.Modes.{uncounted, with_counting}
 use Rattle.modes.proofs.Told.{refused_by_rows, made_by_rows}
 use Rattle.packets.specs.Packet.{packet_with}
@@ -29,63 +27,63 @@ pub told : {A : Type 0} (given promised found : A) → given ≡ promised → gi
 told given promised found e is = sym e ∙ is
 
 module _ (mode : ℕ) (interface : Interface) (r : Record) (type second start : ℕ) (run : List ℕ) where
-  abbrev pub Outcome : Written → List ℕ → Type 0
+  abbrev pub Outcome : Result Unit Refusal → List ℕ → Type 0
   Outcome answered left = (answered ≡ written_of mode interface r type second start run) × (left ≡ run_of mode interface r type second start run)
 
-  abbrev rows : List Refusal
+  abbrev rows : List Cause
   rows = written_rows mode interface r type second start run
 
-  abbrev payload_rows : List Refusal
+  abbrev payload_rows : List Cause
   payload_rows = payload_refusals mode interface type second
 
   -- the record's own, and then 11, after the mode
-  abbrev record_rows : List Refusal
+  abbrev record_rows : List Cause
   record_rows = with_counting mode (carried_refusals mode type r)
 
-  pub no_mode : uncounted mode ≡ true → Outcome (Unwritten 2) run
+  pub no_mode : uncounted mode ≡ true → Outcome (Err UnknownMode) run
   unfolding written_of run_of
-  no_mode past = turned_away rows start (packet_of mode r type second) run unknown_mode tt past
+  no_mode past = turned_away rows start (packet_of mode r type second) run UnknownMode tt past
 
   module _ (known : uncounted mode ≡ false) where
     -- the record's own answer begins with the mode, which is known
     past_mode : {A : Type 0} (refused : ℕ → A) (accepted : A)
-        → answer refused record_rows accepted ≡ answer refused (rows_from outside_the_clock record_rows) accepted
+        → answer refused record_rows accepted ≡ answer refused (rows_from OutsideTheClock record_rows) accepted
     past_mode refused accepted = rw known
 
-    pub no_payload : (n : ℕ) → verdict_of payload_rows ≡ Unsound n → Outcome (Unwritten n) run
+    pub no_payload : (n : Refusal) → verdict_of payload_rows ≡ Err n → Outcome (Err n) run
     unfolding written_of run_of
     no_payload n e = (
-      rw known (refused_by Unwritten _ payload_rows (verdict_of payload_rows) refl n e),
+      rw known (refused_by Err _ payload_rows (verdict_of payload_rows) refl n e),
       rw known (refused_by (λ (k : ℕ). run) _ payload_rows (verdict_of payload_rows) refl n e),
     )
 
-    module _ (fit : verdict_of payload_rows ≡ Sound) where
+    module _ (fit : verdict_of payload_rows ≡ Ok tt) where
       -- no row before the record's own applies
-      front : Clear (rows_before outside_the_clock rows)
-      front = (known, sound_clear Unwritten (Unwritten 0) payload_rows (verdict_of payload_rows) refl fit)
+      front : Clear (rows_before OutsideTheClock rows)
+      front = (known, sound_clear payload_rows (verdict_of payload_rows) refl fit)
 
-      pub no_record : (n : ℕ) → made_for mode type r ≡ Unpackable n → Outcome (Unwritten n) run
+      pub no_record : (n : Refusal) → made_for mode type r ≡ Err n → Outcome (Err n) run
       unfolding written_of run_of made_for
       no_record n e = (
-        refused_by_rows record_rows (info_for mode r) Unwritten _ n e ∙ past_mode Unwritten _ ∙ sym (answer_from Unwritten _ outside_the_clock rows front),
+        refused_by_rows record_rows (info_for mode r) Err _ n e ∙ past_mode Err _ ∙ sym (answer_from Err _ OutsideTheClock rows front),
         refused_by_rows record_rows (info_for mode r) (λ (k : ℕ). run) _ n e
             ∙ past_mode (λ (k : ℕ). run) _
-            ∙ sym (answer_from (λ (k : ℕ). run) _ outside_the_clock rows front),
+            ∙ sym (answer_from (λ (k : ℕ). run) _ OutsideTheClock rows front),
       )
 
       -- the packet was placed, or there was no room for it: what came back is what the write answers
-      pub placed : (info : ℕ) → made_for mode type r ≡ Bits info → (answered : Written) (left : List ℕ)
+      pub placed : (info : ℕ) → made_for mode type r ≡ Ok info → (answered : Result Unit Refusal) (left : List ℕ)
           → (answered ≡ written_by (place_refusals mode start run)) × (left ≡ run_after (place_refusals mode start run) start (packet_with mode info type second) run)
           → Outcome answered left
       unfolding written_of run_of made_for
       placed info e answered left told =
           let made = made_by_rows record_rows (info_for mode r) info e in
-          let before = rows_before no_room rows in
-          let clear : Clear before = clear_whole outside_the_clock before front (clear_from outside_the_clock record_rows made.0) in
+          let before = rows_before NoRoom rows in
+          let clear : Clear before = clear_whole OutsideTheClock before front (clear_from OutsideTheClock record_rows made.0) in
           let word = packet_of mode r type second in
           let answered_so : answered ≡ written_by (room_refusals 23 start run) = rw known at told.0 in
           let left_so : left ≡ run_after (room_refusals 23 start run) start (packet_with mode info type second) run = rw known at told.1 in (
-            answered_so ∙ sym (otherwise_accepted Unwritten (written_by (room_refusals 23 start run)) before clear),
+            answered_so ∙ sym (otherwise_accepted Err (written_by (room_refusals 23 start run)) before clear),
             left_so
                 ∙ rw (← made.1)
                 (sym (otherwise_accepted (λ (k : ℕ). run) (run_after (room_refusals 23 start run) start word run) before clear)),

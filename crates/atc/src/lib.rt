@@ -14,5 +14,5 @@ mod types;
 mod writing;
 
 pub use reading::read;
-pub use types::{Contents, Interface, Packet};
+pub use types::{Contents, Interface};
 pub use writing::write;

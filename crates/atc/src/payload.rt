@@ -8,8 +8,8 @@ ghost use Rattle.atc.specs.Calls.{payload_refusals};
 use crate::lines::is_impossible_line;
 use crate::types::Interface;
 use modes::Shows;
-use record::{Packed, Record, Unpacked};
-use refusals::Verdict;
+use record::Record;
+use refusals::Refusal;
 
 // "Payload type above 2"; of the other family, any but "80 to 8F hex".
 fn is_unknown_type(mode: u8, payload_type: u8) -> bool
@@ -31,23 +31,23 @@ fn shows_by(payload_type: u8) -> Shows
     Shows::ByMark
 }
 
-pub fn judge(mode: u8, interface: Interface, payload_type: u8, second: u8) -> Verdict
+pub fn judge(mode: u8, interface: Interface, payload_type: u8, second: u8) -> Result<(), Refusal>
     ensures { result ≡ verdict_of (payload_refusals mode interface payload_type second) }
 {
     if is_unknown_type(mode, payload_type) {
-        return Verdict::Refused(refusals::UNKNOWN_TYPE);
+        return Err(Refusal::UnknownType);
     }
     if is_impossible_line(interface, payload_type, second) {
-        return Verdict::Refused(refusals::IMPOSSIBLE_LINE);
+        return Err(Refusal::ImpossibleLine);
     }
     if superframes::is_misnamed(mode, second) {
-        return Verdict::Refused(refusals::MISNAMED_MODE);
+        return Err(Refusal::MisnamedMode);
     }
-    Verdict::Sound
+    Ok(())
 }
 
 // The record that the bits hold.
-pub fn record_in(mode: u8, payload_type: u8, info: u64) -> Unpacked
+pub fn record_in(mode: u8, payload_type: u8, info: u64) -> Result<Record, Refusal>
     ensures { result ≡ held_for mode payload_type info }
 {
     if modes::is_high_rate(mode) {
@@ -57,7 +57,7 @@ pub fn record_in(mode: u8, payload_type: u8, info: u64) -> Unpacked
 }
 
 // The bits that a record makes.
-pub fn bits_of(mode: u8, payload_type: u8, r: Record) -> Packed
+pub fn bits_of(mode: u8, payload_type: u8, r: Record) -> Result<u64, Refusal>
     ensures { result ≡ made_for mode payload_type r }
 {
     if modes::is_high_rate(mode) {

@@ -3,10 +3,10 @@ ghost use Rattle.std.specs.Prelude.{◌≡◌, ◌≤◌, length};
 ghost use Rattle.words.specs.Words.{info_in, byte_in};
 ghost use Rattle.atc.specs.Calls.{packet_as, read_of};
 
+use record::Record;
 use crate::payload;
-use crate::types::{Contents, Interface, Packet};
-use record::Unpacked;
-use refusals::Verdict;
+use crate::types::{Contents, Interface};
+use refusals::Refusal;
 
 // The information bits of at most sixteen data words: four in each, in b4 to b7.
 fn info_in(words: &[u16]) -> u64
@@ -37,12 +37,12 @@ fn byte_in(words: &[u16]) -> u8
 }
 
 // What the record's own answer comes to, with the type and the second byte beside it.
-fn packet_as(payload_type: u8, second: u8, unpacked: Unpacked) -> Packet
+fn packet_as(payload_type: u8, second: u8, unpacked: Result<Record, Refusal>) -> Result<Contents, Refusal>
     ensures { result ≡ packet_as payload_type second unpacked }
 {
     match unpacked {
-        Unpacked::Refused(number) => Packet::Refused(number),
-        Unpacked::Holds(record) => Packet::Holds(Contents {
+        Err(number) => Err(number),
+        Ok(record) => Ok(Contents {
             record,
             payload_type,
             second,
@@ -50,18 +50,18 @@ fn packet_as(payload_type: u8, second: u8, unpacked: Unpacked) -> Packet
     }
 }
 
-pub fn read(mode: u8, interface: Interface, words: &[u16]) -> Packet
+pub fn read(mode: u8, interface: Interface, words: &[u16]) -> Result<Contents, Refusal>
     ensures { result ≡ read_of mode interface words.now }
 {
     let found = packets::judge(mode, words);
-    if let Verdict::Refused(number) = found {
-        return Packet::Refused(number);
+    if let Err(number) = found {
+        return Err(number);
     }
     let payload_type = byte_in(&words[6..14]);
     let second = byte_in(&words[14..22]);
     let carried = payload::judge(mode, interface, payload_type, second);
-    if let Verdict::Refused(number) = carried {
-        return Packet::Refused(number);
+    if let Err(number) = carried {
+        return Err(number);
     }
     let unpacked = payload::record_in(mode, payload_type, info_in(&words[6..22]));
     packet_as(payload_type, second, unpacked)

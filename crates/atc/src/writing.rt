@@ -4,9 +4,8 @@ ghost use Rattle.atc.specs.Calls.{written_of, run_of};
 
 use crate::payload;
 use crate::types::Interface;
-use record::{Packed, Record};
-use refusals::Verdict;
-use runs::Written;
+use record::Record;
+use refusals::Refusal;
 
 pub fn write(
     mode: u8,
@@ -16,20 +15,20 @@ pub fn write(
     second: u8,
     start: usize,
     run: &mut [u16],
-) -> Written
+) -> Result<(), Refusal>
     ensures { (result ≡ written_of mode interface r payload_type second start run.old)
         × (run.new ≡ run_of mode interface r payload_type second start run.old) }
 {
     if modes::is_uncounted(mode) {
-        return Written::Refused(refusals::UNKNOWN_MODE);
+        return Err(Refusal::UnknownMode);
     }
     let carried = payload::judge(mode, interface, payload_type, second);
-    if let Verdict::Refused(number) = carried {
-        return Written::Refused(number);
+    if let Err(number) = carried {
+        return Err(number);
     }
     let packed = payload::bits_of(mode, payload_type, r);
     match packed {
-        Packed::Refused(number) => Written::Refused(number),
-        Packed::Bits(info) => packets::place(mode, info, payload_type, second, start, run),
+        Err(number) => Err(number),
+        Ok(info) => packets::place(mode, info, payload_type, second, start, run),
     }
 }

@@ -8,8 +8,8 @@ use mathlib.Core.List.{List}
 use mathlib.Core.Logic.{◌↔◌, ◌⊎◌, inl, inr, ⊎_elim}
 use native.Mathlib.Omega.{arith}
 use borrow.Author.Tests.{leb-false, lt-leb, lt-ltb}
-use Rattle.refusals.specs.Table.{unknown_mode, outside_the_clock, skipped_address, unused_bit_set}
-use Rattle.refusals.specs.Answer.{Refusal}
+use Rattle.refusals.specs.declared.types.Refusal.TheVariants.{OutsideTheClock, SkippedAddress, UnknownMode, UnusedBitSet}
+use Rattle.refusals.specs.Answer.{Cause}
 use Rattle.refusals.proofs.Answered.{Clear, neither}
 use Rattle.refusals.proofs.ByNumber.{clear_at, clear_from}
 use Rattle.rates.specs.declared.types.Rate.{Rate}
@@ -166,7 +166,7 @@ module _ (mode : ℕ) (r : Record) where
   abbrev own : Picture
   own = picture r.address r.place
 
-  abbrev rows : List Refusal
+  abbrev rows : List Cause
   rows = with_counting mode (record_refusals_for mode r)
 
   -- what makes 10 apply besides drop, by the family of the mode
@@ -212,15 +212,15 @@ module _ (mode : ℕ) (r : Record) where
   there : Clear rows → Acceptable mode r
   there clear =
       let eight =
-      neither (place_outside (pictures_at mode) r.place || group_above_15 r.groups) (outside fps r.address) (clear_at outside_the_clock rows clear) in
+      neither (place_outside (pictures_at mode) r.place || group_above_15 r.groups) (outside fps r.address) (clear_at OutsideTheClock rows clear) in
       let bad = neither (place_outside (pictures_at mode) r.place) (group_above_15 r.groups) eight.0 in
-      let ten = neither (cond (high_rate mode) (flag_besides_drop r.flags) unused) (dropped && not (may_drop rate)) (clear_at unused_bit_set rows clear) in
-      let is_used = used ((counted_exactly mode).0 (clear_at unknown_mode rows clear)) ten.0 in
+      let ten = neither (cond (high_rate mode) (flag_besides_drop r.flags) unused) (dropped && not (may_drop rate)) (clear_at UnusedBitSet rows clear) in
+      let is_used = used ((counted_exactly mode).0 (clear_at UnknownMode rows clear)) ten.0 in
       let stands : Clear (picture_refusals rate (pictures_at mode) r.flags.drop own) =
-      (rw bad.0 eight.1, (clear_at skipped_address rows clear, (rw is_used.place ten.1, tt))) in
+      (rw bad.0 eight.1, (clear_at SkippedAddress rows clear, (rw is_used.place ten.1, tt))) in
       let is = sound rate (pictures_at mode) r.flags.drop (some_picture mode) own stands in
       record {
-        counts = counting mode r.flags.drop (clear_at unknown_mode rows clear) ten.1;
+        counts = counting mode r.flags.drop (clear_at UnknownMode rows clear) ten.1;
         steps = picture_number fps (pictures_at mode) dropped own;
         shows = shown_at_number fps (pictures_at mode) dropped (some_picture mode) is.counts.way own is.stands is.place;
         colourless = is_used.colourless;
@@ -250,14 +250,14 @@ module _ (mode : ℕ) (r : Record) where
   on_lines_exactly = (
     λ clear.
         (let line = with_mode mode (write_refusals_in mode r) in
-        let low = (known_exactly mode).0 (clear_at unknown_mode line clear) in
+        let low = (known_exactly mode).0 (clear_at UnknownMode line clear) in
         let few : mode ≤ 10 = omega arith in
         let high = (low_exactly mode few).1 low in
-        (low, there ((counted_exactly mode).1 few, rw high (clear_from outside_the_clock line clear)))),
+        (low, there ((counted_exactly mode).1 few, rw high (clear_from OutsideTheClock line clear)))),
     λ ok.
         (let few : mode ≤ 10 = let low = ok.0 in omega arith in
         let high = (low_exactly mode few).1 ok.0 in
-        ((known_exactly mode).1 ok.0, (rw high at (clear_from outside_the_clock rows (back ok.1))))),
+        ((known_exactly mode).1 ok.0, (rw high at (clear_from OutsideTheClock rows (back ok.1))))),
   )
 
   -- the place of an acceptable record is one of the mode's

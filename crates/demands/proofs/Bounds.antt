@@ -11,31 +11,23 @@ use lib.Dec.{leb, eqb}
 use lib.IntN.{ℤ}
 use lib.ListN.{length}
 use borrow.Author.Tests.{leb-true, leb-false, le-leb, eqb-true, eq-eqb, not-false}
-use Rattle.refusals.specs.Table.{unknown_mode, the_order}
-use Rattle.refusals.specs.Answer.{Refusal, answer, in_order}
+use Rattle.refusals.specs.declared.types.Refusal.{Refusal}
+use Rattle.std.specs.Prelude.{Err, Ok, Result}
+use Rattle.pictures.specs.declared.types.PictureInSecond.{PictureInSecond}
+use Rattle.polarity.specs.declared.types.Word.{Word}
+use Rattle.refusals.specs.declared.types.Refusal.TheVariants.{UnknownMode}
+use Rattle.refusals.specs.Table.{the_order}
+use Rattle.refusals.specs.Answer.{Cause, answer, in_order}
 use Rattle.refusals.proofs.First.{given_exactly}
-use Rattle.runs.specs.declared.types.Written.TheVariants.{Done, Refused as Unwritten}
 use Rattle.rates.specs.declared.types.Flag.{Flag}
 use Rattle.rates.specs.declared.types.Rate.{Rate}
 use Rattle.rates.specs.Rates.{is_yes, frames_in_second}
 use Rattle.round.specs.Round.{distance_of, sum_of}
 use Rattle.clock.specs.declared.types.DayFrame.{DayFrame}
-use Rattle.clock.specs.declared.types.Numbered.{Numbered}
-use Rattle.clock.specs.declared.types.Numbered.TheVariants.{Number, Refused as Unnumbered}
-use Rattle.clock.specs.declared.types.Span.{Span}
-use Rattle.clock.specs.declared.types.Span.TheVariants.{Frames, Refused as Unmeasured}
 use Rattle.pictures.specs.declared.types.Picture.{Picture}
-use Rattle.pictures.specs.declared.types.Pictured.{Pictured}
-use Rattle.pictures.specs.declared.types.Pictured.TheVariants.{At, Refused as Unpictured}
-use Rattle.pictures.specs.declared.types.InSecond.{InSecond}
-use Rattle.pictures.specs.declared.types.InSecond.TheVariants.{Number as Counted, Refused as Uncounted}
 use Rattle.pictures.specs.Pictures.{pictures_in_day, picture_number, number_in_second, picture_at}
 use Rattle.pictures.specs.Calls.{picture_refusals, two_refusals, number_refusals}
 use Rattle.record.specs.declared.types.Record.{Record}
-use Rattle.record.specs.declared.types.Unpacked.{Unpacked}
-use Rattle.record.specs.declared.types.Unpacked.TheVariants.{Holds, Refused as Unheld}
-use Rattle.record.specs.declared.types.Packed.{Packed}
-use Rattle.record.specs.declared.types.Packed.TheVariants.{Bits, Refused as Unpackable}
 use Rattle.modes.specs.Modes.{unknown, uncounted, high_rate, rate_at, pictures_at, with_counting}
 use Rattle.modes.proofs.EachMode.{high_exactly}
 use Rattle.superframes.specs.Calls as superframes
@@ -46,46 +38,43 @@ use Rattle.reader.specs.Steps.{after, stepped_of}
 use Rattle.reader.specs.Blocks.{stopped, blocked_of}
 use Rattle.modes.specs.Calls.{number_in, in_second_in, picture_in, fields_in, span_in, plus_in}
 use Rattle.modes.proofs.Rows as counts
-use Rattle.polarity.specs.declared.types.Word.{Word}
-use Rattle.polarity.specs.declared.types.Word.TheVariants.{Holds as Read, Refused as Unread}
 use Rattle.ltc.specs.Calls as ltc
 use Rattle.ltc.proofs.Rows as linear
 use Rattle.vitc.specs.Calls as vitc
 use Rattle.vitc.proofs.Rows as interval
 use Rattle.atc.specs.declared.types.Interface.{Interface}
-use Rattle.atc.specs.declared.types.Packet.TheVariants.{Refused as Turned}
 use Rattle.atc.specs.Calls as atc
 use Rattle.atc.proofs.Answers as ancillary
 use Rattle.trips.proofs.Nineteen.{of_packet, of_written}
 
 -- the number that each kind of answer is refused with, and 0 where it is not
-abbrev pub of_numbered : Numbered → ℕ
-of_numbered (Number n) = 0
-of_numbered (Unnumbered n) = n
+abbrev pub of_numbered : Result DayFrame Refusal → ℕ
+of_numbered (Ok n) = 0
+of_numbered (Err n) = n
 
-abbrev pub of_in_second : InSecond → ℕ
-of_in_second (Counted n) = 0
-of_in_second (Uncounted n) = n
+abbrev pub of_in_second : Result PictureInSecond Refusal → ℕ
+of_in_second (Ok n) = 0
+of_in_second (Err n) = n
 
-abbrev pub of_pictured : Pictured → ℕ
-of_pictured (At p) = 0
-of_pictured (Unpictured n) = n
+abbrev pub of_pictured : Result Picture Refusal → ℕ
+of_pictured (Ok p) = 0
+of_pictured (Err n) = n
 
-abbrev pub of_span : Span → ℕ
-of_span (Frames z) = 0
-of_span (Unmeasured n) = n
+abbrev pub of_span : Result ℤ Refusal → ℕ
+of_span (Ok z) = 0
+of_span (Err n) = n
 
-abbrev pub of_word : Word → ℕ
-of_word (Read r found) = 0
-of_word (Unread n) = n
+abbrev pub of_word : Result Word Refusal → ℕ
+of_word (Ok (reading r found)) = 0
+of_word (Err n) = n
 
-abbrev pub of_packed : Packed → ℕ
-of_packed (Bits n) = 0
-of_packed (Unpackable n) = n
+abbrev pub of_packed : Result ℕ Refusal → ℕ
+of_packed (Ok n) = 0
+of_packed (Err n) = n
 
-abbrev pub of_unpacked : Unpacked → ℕ
-of_unpacked (Holds r) = 0
-of_unpacked (Unheld n) = n
+abbrev pub of_unpacked : Result Record Refusal → ℕ
+of_unpacked (Ok r) = 0
+of_unpacked (Err n) = n
 
 -- the tests, as numbers
 unknown_from : (mode : ℕ) → (unknown mode ≡ true) ↔ (6 ≤ mode)
@@ -109,10 +98,10 @@ after_length words size exactly bound = (
 
 -- a list that begins with 2 gives it exactly where nothing is counted
 two_first :
-    {A : Type 0} (refused : ℕ → A) (accepted : A) (number_of : A → ℕ) → ((k : ℕ) → number_of (refused k) ≡ k) → number_of accepted ≡ 0 → (mode : ℕ) (rows : List Refusal)
-    → in_order the_order (with_counting mode rows) ≡ true → (answer refused (with_counting mode rows) accepted ≡ refused unknown_mode) ↔ (11 ≤ mode)
+    {A : Type 0} (refused : ℕ → A) (accepted : A) (number_of : A → ℕ) → ((k : ℕ) → number_of (refused k) ≡ k) → number_of accepted ≡ 0 → (mode : ℕ) (rows : List Cause)
+    → in_order the_order (with_counting mode rows) ≡ true → (answer refused (with_counting mode rows) accepted ≡ refused UnknownMode) ↔ (11 ≤ mode)
 two_first refused accepted number_of tells nothing mode rows follows =
-    first_of (given_exactly refused accepted number_of tells nothing unknown_mode (omega arith) (with_counting mode rows) follows) (uncounted_from mode)
+    first_of (given_exactly refused accepted number_of tells nothing UnknownMode (omega arith) (with_counting mode rows) follows) (uncounted_from mode)
 
 -- the six calls that count
 module _ (mode : ℕ) (drop : Flag) where
@@ -128,74 +117,74 @@ module _ (mode : ℕ) (drop : Flag) where
   abbrev day : ℕ
   day = pictures_in_day rate (pictures_at mode) (is_yes drop)
 
-  abbrev rows : Picture → List Refusal
+  abbrev rows : Picture → List Cause
   rows p = picture_refusals rate (pictures_at mode) drop p
 
-  pub number_refused_by_2 : (p : Picture) → (number_in mode drop p ≡ Unnumbered 2) ↔ (11 ≤ mode)
+  pub number_refused_by_2 : (p : Picture) → (number_in mode drop p ≡ Err UnknownMode) ↔ (11 ≤ mode)
   number_refused_by_2 p =
       rw (counts.number_rows mode drop p)
-      (two_first Unnumbered (Number (record { 0 = number p })) of_numbered (λ k. refl) refl mode (rows p) (counts.picture_rows_in_order mode drop p))
+      (two_first Err (Ok (record { 0 = number p })) of_numbered (λ k. refl) refl mode (rows p) (counts.picture_rows_in_order mode drop p))
 
-  pub in_second_refused_by_2 : (p : Picture) → (in_second_in mode drop p ≡ Uncounted 2) ↔ (11 ≤ mode)
+  pub in_second_refused_by_2 : (p : Picture) → (in_second_in mode drop p ≡ Err UnknownMode) ↔ (11 ≤ mode)
   in_second_refused_by_2 p =
       rw (counts.in_second_rows mode drop p)
-      (two_first Uncounted (Counted (record { 0 = number_in_second (pictures_at mode) p })) of_in_second (λ k. refl) refl mode (rows p)
+      (two_first Err (Ok (record { 0 = number_in_second (pictures_at mode) p })) of_in_second (λ k. refl) refl mode (rows p)
       (counts.picture_rows_in_order mode drop p))
 
-  pub picture_refused_by_2 : (n : DayFrame) → (picture_in mode drop n ≡ Unpictured 2) ↔ (11 ≤ mode)
+  pub picture_refused_by_2 : (n : DayFrame) → (picture_in mode drop n ≡ Err UnknownMode) ↔ (11 ≤ mode)
   picture_refused_by_2 n =
       rw (counts.picture_rows mode drop n)
-      (two_first Unpictured (At (numbered n.0)) of_pictured (λ k. refl) refl mode (number_refusals rate (pictures_at mode) drop n.0)
+      (two_first Err (Ok (numbered n.0)) of_pictured (λ k. refl) refl mode (number_refusals rate (pictures_at mode) drop n.0)
       (counts.number_rows_in_order mode drop n.0))
 
-  pub fields_refused_by_2 : (p : Picture) → (fields_in mode drop p ≡ Unpictured 2) ↔ (11 ≤ mode)
+  pub fields_refused_by_2 : (p : Picture) → (fields_in mode drop p ≡ Err UnknownMode) ↔ (11 ≤ mode)
   fields_refused_by_2 p =
-      rw (counts.fields_rows mode drop p) (two_first Unpictured (At p) of_pictured (λ k. refl) refl mode (rows p) (counts.picture_rows_in_order mode drop p))
+      rw (counts.fields_rows mode drop p) (two_first Err (Ok p) of_pictured (λ k. refl) refl mode (rows p) (counts.picture_rows_in_order mode drop p))
 
-  pub span_refused_by_2 : (from to : Picture) → (span_in mode drop from to ≡ Unmeasured 2) ↔ (11 ≤ mode)
+  pub span_refused_by_2 : (from to : Picture) → (span_in mode drop from to ≡ Err UnknownMode) ↔ (11 ≤ mode)
   span_refused_by_2 from to =
       rw (counts.span_rows mode drop from to)
-      (two_first Unmeasured (Frames (distance_of day (number from) (number to))) of_span (λ k. refl) refl mode (two_refusals rate (pictures_at mode) drop from to)
+      (two_first Err (Ok (distance_of day (number from) (number to))) of_span (λ k. refl) refl mode (two_refusals rate (pictures_at mode) drop from to)
       (counts.two_rows_in_order mode drop from to))
 
-  pub plus_refused_by_2 : (p : Picture) (z : ℤ) → (plus_in mode drop p z ≡ Unpictured 2) ↔ (11 ≤ mode)
+  pub plus_refused_by_2 : (p : Picture) (z : ℤ) → (plus_in mode drop p z ≡ Err UnknownMode) ↔ (11 ≤ mode)
   plus_refused_by_2 p z =
       rw (counts.plus_rows mode drop p z)
-      (two_first Unpictured (At (numbered (sum_of day (number p) z))) of_pictured (λ k. refl) refl mode (rows p) (counts.picture_rows_in_order mode drop p))
+      (two_first Err (Ok (numbered (sum_of day (number p) z))) of_pictured (λ k. refl) refl mode (rows p) (counts.picture_rows_in_order mode drop p))
 
 -- words, lines and packets, written and read
 module _ (mode : ℕ) (r : Record) (start : ℕ) (run : List ℕ) where
-  pub linear_written_refused_by_2 : (ltc.written_of mode r start run ≡ Unwritten 2) ↔ (6 ≤ mode)
+  pub linear_written_refused_by_2 : (ltc.written_of mode r start run ≡ Err UnknownMode) ↔ (6 ≤ mode)
   unfolding ltc.written_of ltc.written_rows
   linear_written_refused_by_2 =
-      first_of (given_exactly Unwritten Done of_written (λ k. refl) refl unknown_mode (omega arith) (ltc.written_rows mode r start run) (linear.written_rows_in_order mode r start run)) (unknown_from mode)
+      first_of (given_exactly Err (Ok tt) of_written (λ k. refl) refl UnknownMode (omega arith) (ltc.written_rows mode r start run) (linear.written_rows_in_order mode r start run)) (unknown_from mode)
 
-  pub interval_written_refused_by_2 : (vitc.written_of mode r start run ≡ Unwritten 2) ↔ (6 ≤ mode)
+  pub interval_written_refused_by_2 : (vitc.written_of mode r start run ≡ Err UnknownMode) ↔ (6 ≤ mode)
   unfolding vitc.written_of
   interval_written_refused_by_2 =
-      first_of (given_exactly Unwritten Done of_written (λ k. refl) refl unknown_mode (omega arith) (vitc.written_rows mode r start run) (interval.written_rows_in_order mode r start run)) (unknown_from mode)
+      first_of (given_exactly Err (Ok tt) of_written (λ k. refl) refl UnknownMode (omega arith) (vitc.written_rows mode r start run) (interval.written_rows_in_order mode r start run)) (unknown_from mode)
 
   pub ancillary_written_refused_by_2 :
-      (interface : Interface) (type second : ℕ) → (atc.written_of mode interface r type second start run ≡ Unwritten 2) ↔ (11 ≤ mode)
+      (interface : Interface) (type second : ℕ) → (atc.written_of mode interface r type second start run ≡ Err UnknownMode) ↔ (11 ≤ mode)
   unfolding atc.written_of
   ancillary_written_refused_by_2 interface type second =
-      first_of (given_exactly Unwritten Done of_written (λ k. refl) refl unknown_mode (omega arith) (atc.written_rows mode interface r type second start run) (ancillary.written_rows_in_order mode interface r type second start run)) (uncounted_from mode)
+      first_of (given_exactly Err (Ok tt) of_written (λ k. refl) refl UnknownMode (omega arith) (atc.written_rows mode interface r type second start run) (ancillary.written_rows_in_order mode interface r type second start run)) (uncounted_from mode)
 
 module _ (mode : ℕ) (elements : List ℕ) where
-  pub linear_refused_by_2 : (ltc.read_of mode elements ≡ Unread 2) ↔ ((length elements ≡ 80) × (6 ≤ mode))
+  pub linear_refused_by_2 : (ltc.read_of mode elements ≡ Err UnknownMode) ↔ ((length elements ≡ 80) × (6 ≤ mode))
   unfolding ltc.read_of
   linear_refused_by_2 =
-      after_length elements 80 (given_exactly Unread _ of_word (λ k. refl) refl unknown_mode (omega arith) (ltc.read_refusals mode elements) (linear.read_rows_in_order mode elements)) (unknown_from mode)
+      after_length elements 80 (given_exactly Err _ of_word (λ k. refl) refl UnknownMode (omega arith) (ltc.read_refusals mode elements) (linear.read_rows_in_order mode elements)) (unknown_from mode)
 
-  pub interval_refused_by_2 : (vitc.read_of mode elements ≡ Unheld 2) ↔ ((length elements ≡ 90) × (6 ≤ mode))
+  pub interval_refused_by_2 : (vitc.read_of mode elements ≡ Err UnknownMode) ↔ ((length elements ≡ 90) × (6 ≤ mode))
   unfolding vitc.read_of
   interval_refused_by_2 =
-      after_length elements 90 (given_exactly Unheld _ of_unpacked (λ k. refl) refl unknown_mode (omega arith) (vitc.read_refusals mode elements) (interval.read_rows_in_order mode elements)) (unknown_from mode)
+      after_length elements 90 (given_exactly Err _ of_unpacked (λ k. refl) refl UnknownMode (omega arith) (vitc.read_refusals mode elements) (interval.read_rows_in_order mode elements)) (unknown_from mode)
 
-  pub ancillary_refused_by_2 : (interface : Interface) → (atc.read_of mode interface elements ≡ Turned 2) ↔ ((length elements ≡ 23) × (11 ≤ mode))
+  pub ancillary_refused_by_2 : (interface : Interface) → (atc.read_of mode interface elements ≡ Err UnknownMode) ↔ ((length elements ≡ 23) × (11 ≤ mode))
   unfolding atc.read_of
   ancillary_refused_by_2 interface =
-      after_length elements 23 (given_exactly Turned _ of_packet (λ k. refl) refl unknown_mode (omega arith) (atc.read_refusals mode interface elements) (ancillary.read_rows_in_order mode interface elements)) (uncounted_from mode)
+      after_length elements 23 (given_exactly Err _ of_packet (λ k. refl) refl UnknownMode (omega arith) (atc.read_refusals mode interface elements) (ancillary.read_rows_in_order mode interface elements)) (uncounted_from mode)
 
 -- the calls of the record on the lines, and those of high frame rates, which are of modes 6 to 10 alone
 module _ (mode : ℕ) where
@@ -220,24 +209,24 @@ module _ (mode : ℕ) where
       go true t (inr high) = let within = (high_exactly mode).0 t in absurd (omega arith)
       go false t out = refl
 
-  pub super_frame_refused_by_2 : (info : ℕ) → (superframes.unpacked_in mode info ≡ Unheld 2) ↔ ((mode ≤ 5) ⊎ (11 ≤ mode))
+  pub super_frame_refused_by_2 : (info : ℕ) → (superframes.unpacked_in mode info ≡ Err UnknownMode) ↔ ((mode ≤ 5) ⊎ (11 ≤ mode))
   unfolding superframes.unpacked_in
   super_frame_refused_by_2 info =
-      first_of (given_exactly Unheld _ of_unpacked (λ k. refl) refl unknown_mode (omega arith)
+      first_of (given_exactly Err _ of_unpacked (λ k. refl) refl UnknownMode (omega arith)
       (superframes.with_high_rate mode (superframes.bits_refusals (rate_at mode) (pictures_at mode) info)) (high.bits_rows_in_order mode info)) not_high
 
-  pub super_frame_made_refused_by_2 : (r : Record) → (superframes.packed_in mode r ≡ Unpackable 2) ↔ ((mode ≤ 5) ⊎ (11 ≤ mode))
+  pub super_frame_made_refused_by_2 : (r : Record) → (superframes.packed_in mode r ≡ Err UnknownMode) ↔ ((mode ≤ 5) ⊎ (11 ≤ mode))
   unfolding superframes.packed_in
   super_frame_made_refused_by_2 r =
-      first_of (given_exactly Unpackable _ of_packed (λ k. refl) refl unknown_mode (omega arith)
+      first_of (given_exactly Err _ of_packed (λ k. refl) refl UnknownMode (omega arith)
       (superframes.with_high_rate mode (superframes.write_refusals (rate_at mode) (pictures_at mode) r)) (high.write_rows_in_order mode r)) not_high
 
 -- a reader in such a mode answers 2 to every step and block, and stays as it was: "it is LTC"
 module _ (reader : Reader) (high : 6 ≤ reader.mode) where
-  pub step_refused_by_2 : (element : ℕ) → stepped_of reader element ≡ after reader (Unheard 2)
+  pub step_refused_by_2 : (element : ℕ) → stepped_of reader element ≡ after reader (Unheard UnknownMode)
   unfolding stepped_of
   step_refused_by_2 element = rw ((unknown_from reader.mode).1 high)
 
-  pub block_refused_by_2 : (limit : ℕ) (run : List ℕ) → blocked_of reader limit run ≡ stopped (Unheard 2) reader 0
+  pub block_refused_by_2 : (limit : ℕ) (run : List ℕ) → blocked_of reader limit run ≡ stopped (Unheard UnknownMode) reader 0
   unfolding blocked_of
   block_refused_by_2 limit run = rw ((unknown_from reader.mode).1 high)

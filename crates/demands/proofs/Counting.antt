@@ -9,20 +9,19 @@ use mathlib.Core.Logic.{◌↔◌, ◌⊎◌}
 use native.Mathlib.Omega.{arith}
 use lib.IntN.{ℤ}
 use borrow.Author.Tests.{leb-true, le-leb}
-use Rattle.refusals.specs.Table.{outside_the_clock, skipped_address, unused_bit_set, number_past_the_day}
-use Rattle.refusals.specs.Answer.{Refusal, test_of}
+use Rattle.refusals.specs.declared.types.Refusal.TheVariants.{NumberPastTheDay, OutsideTheClock, SkippedAddress, UnusedBitSet}
+use Rattle.std.specs.Prelude.{Err, Ok}
+use Rattle.refusals.specs.declared.types.Refusal.{Refusal}
+use Rattle.refusals.specs.Answer.{Cause, test_of}
 use Rattle.refusals.proofs.Answered.{carried, otherwise_accepted, accepted_as}
 use Rattle.refusals.proofs.First.{given_exactly}
 use Rattle.rates.specs.declared.types.Flag.{Flag}
 use Rattle.rates.specs.declared.types.Flag.TheVariants.{Yes}
 use Rattle.rates.specs.Rates.{is_yes, frames_in_second}
 use Rattle.clock.specs.declared.types.DayFrame.{DayFrame}
-use Rattle.clock.specs.declared.types.Numbered.TheVariants.{Number, Refused as Unnumbered}
-use Rattle.clock.specs.declared.types.Span.TheVariants.{Frames, Refused as Unmeasured}
 use Rattle.round.specs.Round.{distance_of, sum_of}
 use Rattle.midnight.proofs.Answers.{no_number}
 use Rattle.pictures.specs.declared.types.Picture.{Picture}
-use Rattle.pictures.specs.declared.types.Pictured.TheVariants.{At, Refused as Unpictured}
 use Rattle.pictures.specs.Pictures.{pictures_in_day, picture_number, picture_at}
 use Rattle.pictures.specs.Calls.{picture_refusals, two_refusals, number_refusals, number_of}
 use Rattle.pictures.proofs.Answers.{pictured_as}
@@ -46,7 +45,7 @@ module _ (mode : ℕ) (drop : Flag) where
   counted = (λ clear. (counted_exactly mode).0 clear.0, λ few. ((counted_exactly mode).1 few, tt))
 
   module _ (p : Picture) where
-    abbrev rows : List Refusal
+    abbrev rows : List Cause
     rows = with_counting mode (picture_refusals (rate_at mode) (pictures_at mode) drop p)
 
     -- 8 a field outside the clock, or a place that no picture has; 10 drop where there is none, or a place where each address has one picture
@@ -56,85 +55,85 @@ module _ (mode : ℕ) (drop : Flag) where
     abbrev Ten : Type 0
     Ten = PlaceUnused mode p.place ⊎ DropUnused mode drop
 
-    eight_is : mode ≤ 10 → (test_of outside_the_clock rows ≡ true) ↔ Eight
+    eight_is : mode ≤ 10 → (test_of OutsideTheClock rows ≡ true) ↔ Eight
     eight_is few = either_exactly _ _ (outside_exactly mode few p.place) (clock_exactly mode p.address)
 
-    nine_is : mode ≤ 10 → (test_of skipped_address rows ≡ true) ↔ Nine mode drop p.address
+    nine_is : mode ≤ 10 → (test_of SkippedAddress rows ≡ true) ↔ Nine mode drop p.address
     nine_is few = nine_exactly mode few drop p.address
 
-    ten_is : mode ≤ 10 → (test_of unused_bit_set rows ≡ true) ↔ Ten
+    ten_is : mode ≤ 10 → (test_of UnusedBitSet rows ≡ true) ↔ Ten
     ten_is few = either_exactly _ _ (unused_exactly mode few p.place) (drop_unused_exactly mode few drop)
 
     abbrev number : DayFrame
     number = record { 0 = picture_number (frames_in_second (rate_at mode)) (pictures_at mode) (is_yes drop) p }
 
-    pub number_refused_by_8 : (number_in mode drop p ≡ Unnumbered 8) ↔ ((mode ≤ 10) × Eight)
+    pub number_refused_by_8 : (number_in mode drop p ≡ Err OutsideTheClock) ↔ ((mode ≤ 10) × Eight)
     number_refused_by_8 =
         rw (counts.number_rows mode drop p)
-        (eighth (test_of outside_the_clock rows) (test_of skipped_address rows) (test_of unused_bit_set rows) eight_is nine_is ten_is
-        (with_front (given_exactly Unnumbered (Number number) of_numbered (λ k. refl) refl outside_the_clock (omega arith) rows (counts.picture_rows_in_order mode drop p)) counted))
+        (eighth (test_of OutsideTheClock rows) (test_of SkippedAddress rows) (test_of UnusedBitSet rows) eight_is nine_is ten_is
+        (with_front (given_exactly Err (Ok number) of_numbered (λ k. refl) refl OutsideTheClock (omega arith) rows (counts.picture_rows_in_order mode drop p)) counted))
 
-    pub number_refused_by_9 : (number_in mode drop p ≡ Unnumbered 9) ↔ ((mode ≤ 10) × (Eight → ⊥) × Nine mode drop p.address)
+    pub number_refused_by_9 : (number_in mode drop p ≡ Err SkippedAddress) ↔ ((mode ≤ 10) × (Eight → ⊥) × Nine mode drop p.address)
     number_refused_by_9 =
         rw (counts.number_rows mode drop p)
-        (ninth (test_of outside_the_clock rows) (test_of skipped_address rows) (test_of unused_bit_set rows) eight_is nine_is ten_is
-        (with_front (given_exactly Unnumbered (Number number) of_numbered (λ k. refl) refl skipped_address (omega arith) rows (counts.picture_rows_in_order mode drop p)) (
+        (ninth (test_of OutsideTheClock rows) (test_of SkippedAddress rows) (test_of UnusedBitSet rows) eight_is nine_is ten_is
+        (with_front (given_exactly Err (Ok number) of_numbered (λ k. refl) refl SkippedAddress (omega arith) rows (counts.picture_rows_in_order mode drop p)) (
           λ clear. ((counted_exactly mode).0 clear.0, clear.1.0),
           λ all. ((counted_exactly mode).1 all.0, (all.1, tt)),
         )))
 
-    pub number_refused_by_10 : (number_in mode drop p ≡ Unnumbered 10) ↔ ((mode ≤ 10) × (Eight → ⊥) × (Nine mode drop p.address → ⊥) × Ten)
+    pub number_refused_by_10 : (number_in mode drop p ≡ Err UnusedBitSet) ↔ ((mode ≤ 10) × (Eight → ⊥) × (Nine mode drop p.address → ⊥) × Ten)
     number_refused_by_10 =
         rw (counts.number_rows mode drop p)
-        (tenth (test_of outside_the_clock rows) (test_of skipped_address rows) (test_of unused_bit_set rows) eight_is nine_is ten_is
-        (with_front (given_exactly Unnumbered (Number number) of_numbered (λ k. refl) refl unused_bit_set (omega arith) rows (counts.picture_rows_in_order mode drop p)) (
+        (tenth (test_of OutsideTheClock rows) (test_of SkippedAddress rows) (test_of UnusedBitSet rows) eight_is nine_is ten_is
+        (with_front (given_exactly Err (Ok number) of_numbered (λ k. refl) refl UnusedBitSet (omega arith) rows (counts.picture_rows_in_order mode drop p)) (
           λ clear. (((counted_exactly mode).0 clear.0, clear.1.0), clear.1.1.0),
           λ all. ((counted_exactly mode).1 all.0.0, (all.0.1, (all.1, tt))),
         )))
 
     -- clock fields are refused as the picture's number is, and make the picture where it has one
-    pub fields_refused_alike : (k : ℕ) → number_in mode drop p ≡ Unnumbered k → fields_in mode drop p ≡ Unpictured k
+    pub fields_refused_alike : (k : Refusal) → number_in mode drop p ≡ Err k → fields_in mode drop p ≡ Err k
     fields_refused_alike k e =
         counts.fields_rows mode drop p
-        ∙ sym (carried (pictured_as p) Unnumbered (Number number) rows)
+        ∙ sym (carried (pictured_as p) Err (Ok number) rows)
         ∙ ap (pictured_as p) (sym (counts.number_rows mode drop p) ∙ e)
 
-    pub fields_as_numbers : (n : DayFrame) → number_in mode drop p ≡ Number n → fields_in mode drop p ≡ At p
+    pub fields_as_numbers : (n : DayFrame) → number_in mode drop p ≡ Ok n → fields_in mode drop p ≡ Ok p
     fields_as_numbers n e =
         counts.fields_rows mode drop p
-        ∙ otherwise_accepted Unpictured (At p) rows (accepted_as Unnumbered (Number number) rows (Number n) no_number (sym (counts.number_rows mode drop p) ∙ e)).0
+        ∙ otherwise_accepted Err (Ok p) rows (accepted_as Err (Ok number) rows (Ok n) no_number (sym (counts.number_rows mode drop p) ∙ e)).0
 
     -- a sum is refused as the picture's number is, and is else the picture of the sum of numbers
-    pub sum_refused_alike : (z : ℤ) (k : ℕ) → number_in mode drop p ≡ Unnumbered k → plus_in mode drop p z ≡ Unpictured k
+    pub sum_refused_alike : (z : ℤ) (k : Refusal) → number_in mode drop p ≡ Err k → plus_in mode drop p z ≡ Err k
     sum_refused_alike z k e =
         let day = pictures_in_day (rate_at mode) (pictures_at mode) (is_yes drop) in
         let sum = picture_at (frames_in_second (rate_at mode)) (pictures_at mode) (is_yes drop) (sum_of day number.0 z) in
         counts.plus_rows mode drop p z
-        ∙ sym (carried (pictured_as sum) Unnumbered (Number number) rows)
+        ∙ sym (carried (pictured_as sum) Err (Ok number) rows)
         ∙ ap (pictured_as sum) (sym (counts.number_rows mode drop p) ∙ e)
 
     pub sum_by_numbers :
-        (n : DayFrame) (z : ℤ) → number_in mode drop p ≡ Number n
+        (n : DayFrame) (z : ℤ) → number_in mode drop p ≡ Ok n
         → plus_in mode drop p z ≡ picture_in mode drop (record { 0 = sum_of (pictures_in_day (rate_at mode) (pictures_at mode) (is_yes drop)) n.0 z })
     unfolding number_in
     sum_by_numbers n z e =
-        let at = answered Unnumbered mode (λ rate pictures. number_of rate pictures drop p) (Number n) no_number e in
+        let at = answered Err mode (λ rate pictures. number_of rate pictures drop p) (Ok n) no_number e in
         let sum : DayFrame = record { 0 = sum_of (pictures_in_day (rate_at mode) (pictures_at mode) (is_yes drop)) n.0 z } in
         plus_by_row mode drop p z at.0 ∙ moves.sum_is (rate_at mode) (pictures_at mode) drop (some_picture mode) p n z at.1 ∙ sym (picture_by_row mode drop sum at.0)
 
   -- the distance is the one between the numbers of two pictures
   pub distance_by_numbers :
-      (from to : Picture) (m n : DayFrame) → number_in mode drop from ≡ Number m → number_in mode drop to ≡ Number n
-      → span_in mode drop from to ≡ Frames (distance_of (pictures_in_day (rate_at mode) (pictures_at mode) (is_yes drop)) m.0 n.0)
+      (from to : Picture) (m n : DayFrame) → number_in mode drop from ≡ Ok m → number_in mode drop to ≡ Ok n
+      → span_in mode drop from to ≡ Ok (distance_of (pictures_in_day (rate_at mode) (pictures_at mode) (is_yes drop)) m.0 n.0)
   unfolding number_in
   distance_by_numbers from to m n e f =
-      let first = answered Unnumbered mode (λ rate pictures. number_of rate pictures drop from) (Number m) no_number e in
-      let second = answered Unnumbered mode (λ rate pictures. number_of rate pictures drop to) (Number n) no_number f in
+      let first = answered Err mode (λ rate pictures. number_of rate pictures drop from) (Ok m) no_number e in
+      let second = answered Err mode (λ rate pictures. number_of rate pictures drop to) (Ok n) no_number f in
       span_by_row mode drop from to first.0 ∙ moves.distance_is (rate_at mode) (pictures_at mode) drop (some_picture mode) from to m n first.1 second.1
 
   -- and it is refused where one of the two is: by 8 where that applies to either, then by 9, then by 10
   module _ (from to : Picture) where
-    abbrev two_rows : List Refusal
+    abbrev two_rows : List Cause
     two_rows = with_counting mode (two_refusals (rate_at mode) (pictures_at mode) drop from to)
 
     abbrev EightOfTwo : Type 0
@@ -146,17 +145,17 @@ module _ (mode : ℕ) (drop : Flag) where
     abbrev TenOfTwo : Type 0
     TenOfTwo = (PlaceUnused mode from.place ⊎ PlaceUnused mode to.place) ⊎ DropUnused mode drop
 
-    eight_two : mode ≤ 10 → (test_of outside_the_clock two_rows ≡ true) ↔ EightOfTwo
+    eight_two : mode ≤ 10 → (test_of OutsideTheClock two_rows ≡ true) ↔ EightOfTwo
     eight_two few =
         either_exactly _ _ (either_exactly _ _ (outside_exactly mode few from.place) (outside_exactly mode few to.place))
         (either_exactly _ _ (clock_exactly mode from.address) (clock_exactly mode to.address))
 
-    nine_two : mode ≤ 10 → (test_of skipped_address two_rows ≡ true) ↔ NineOfTwo
+    nine_two : mode ≤ 10 → (test_of SkippedAddress two_rows ≡ true) ↔ NineOfTwo
     nine_two few =
         both_exactly _ _ (drops_exactly mode few)
         (both_exactly _ _ (yes_exactly drop) (either_exactly _ _ (skipped_exactly from.address) (skipped_exactly to.address)))
 
-    ten_two : mode ≤ 10 → (test_of unused_bit_set two_rows ≡ true) ↔ TenOfTwo
+    ten_two : mode ≤ 10 → (test_of UnusedBitSet two_rows ≡ true) ↔ TenOfTwo
     ten_two few =
         either_exactly _ _ (either_exactly _ _ (unused_exactly mode few from.place) (unused_exactly mode few to.place)) (drop_unused_exactly mode few drop)
 
@@ -165,53 +164,53 @@ module _ (mode : ℕ) (drop : Flag) where
         let count : Picture → ℕ = λ p. picture_number (frames_in_second (rate_at mode)) (pictures_at mode) (is_yes drop) p in
         distance_of (pictures_in_day (rate_at mode) (pictures_at mode) (is_yes drop)) (count from) (count to)
 
-    pub distance_refused_by_8 : (span_in mode drop from to ≡ Unmeasured 8) ↔ ((mode ≤ 10) × EightOfTwo)
+    pub distance_refused_by_8 : (span_in mode drop from to ≡ Err OutsideTheClock) ↔ ((mode ≤ 10) × EightOfTwo)
     distance_refused_by_8 =
         rw (counts.span_rows mode drop from to)
-        (eighth (test_of outside_the_clock two_rows) (test_of skipped_address two_rows) (test_of unused_bit_set two_rows) eight_two nine_two ten_two
-        (with_front (given_exactly Unmeasured (Frames apart) of_span (λ k. refl) refl outside_the_clock (omega arith) two_rows (counts.two_rows_in_order mode drop from to)) counted))
+        (eighth (test_of OutsideTheClock two_rows) (test_of SkippedAddress two_rows) (test_of UnusedBitSet two_rows) eight_two nine_two ten_two
+        (with_front (given_exactly Err (Ok apart) of_span (λ k. refl) refl OutsideTheClock (omega arith) two_rows (counts.two_rows_in_order mode drop from to)) counted))
 
-    pub distance_refused_by_9 : (span_in mode drop from to ≡ Unmeasured 9) ↔ ((mode ≤ 10) × (EightOfTwo → ⊥) × NineOfTwo)
+    pub distance_refused_by_9 : (span_in mode drop from to ≡ Err SkippedAddress) ↔ ((mode ≤ 10) × (EightOfTwo → ⊥) × NineOfTwo)
     distance_refused_by_9 =
         rw (counts.span_rows mode drop from to)
-        (ninth (test_of outside_the_clock two_rows) (test_of skipped_address two_rows) (test_of unused_bit_set two_rows) eight_two nine_two ten_two
-        (with_front (given_exactly Unmeasured (Frames apart) of_span (λ k. refl) refl skipped_address (omega arith) two_rows (counts.two_rows_in_order mode drop from to)) (
+        (ninth (test_of OutsideTheClock two_rows) (test_of SkippedAddress two_rows) (test_of UnusedBitSet two_rows) eight_two nine_two ten_two
+        (with_front (given_exactly Err (Ok apart) of_span (λ k. refl) refl SkippedAddress (omega arith) two_rows (counts.two_rows_in_order mode drop from to)) (
           λ clear. ((counted_exactly mode).0 clear.0, clear.1.0),
           λ all. ((counted_exactly mode).1 all.0, (all.1, tt)),
         )))
 
-    pub distance_refused_by_10 : (span_in mode drop from to ≡ Unmeasured 10) ↔ ((mode ≤ 10) × (EightOfTwo → ⊥) × (NineOfTwo → ⊥) × TenOfTwo)
+    pub distance_refused_by_10 : (span_in mode drop from to ≡ Err UnusedBitSet) ↔ ((mode ≤ 10) × (EightOfTwo → ⊥) × (NineOfTwo → ⊥) × TenOfTwo)
     distance_refused_by_10 =
         rw (counts.span_rows mode drop from to)
-        (tenth (test_of outside_the_clock two_rows) (test_of skipped_address two_rows) (test_of unused_bit_set two_rows) eight_two nine_two ten_two
-        (with_front (given_exactly Unmeasured (Frames apart) of_span (λ k. refl) refl unused_bit_set (omega arith) two_rows (counts.two_rows_in_order mode drop from to)) (
+        (tenth (test_of OutsideTheClock two_rows) (test_of SkippedAddress two_rows) (test_of UnusedBitSet two_rows) eight_two nine_two ten_two
+        (with_front (given_exactly Err (Ok apart) of_span (λ k. refl) refl UnusedBitSet (omega arith) two_rows (counts.two_rows_in_order mode drop from to)) (
           λ clear. (((counted_exactly mode).0 clear.0, clear.1.0), clear.1.1.0),
           λ all. ((counted_exactly mode).1 all.0.0, (all.0.1, (all.1, tt))),
         )))
 
   -- a number of the day: 10 drop where there is none; 14 "frame number not below the day's count"
   module _ (n : DayFrame) where
-    abbrev number_rows : List Refusal
+    abbrev number_rows : List Cause
     number_rows = with_counting mode (number_refusals (rate_at mode) (pictures_at mode) drop n.0)
 
     abbrev numbered : Picture
     numbered = picture_at (frames_in_second (rate_at mode)) (pictures_at mode) (is_yes drop) n.0
 
-    pub picture_refused_by_10 : (picture_in mode drop n ≡ Unpictured 10) ↔ ((mode ≤ 10) × DropUnused mode drop)
+    pub picture_refused_by_10 : (picture_in mode drop n ≡ Err UnusedBitSet) ↔ ((mode ≤ 10) × DropUnused mode drop)
     picture_refused_by_10 =
         rw (counts.picture_rows mode drop n)
-        (eighth (test_of unused_bit_set number_rows) false false (λ few. drop_unused_exactly mode few drop) (λ few. (λ e. e, λ e. e)) (λ few. (λ e. e, λ e. e))
-        (with_front (given_exactly Unpictured (At numbered) of_pictured (λ k. refl) refl unused_bit_set (omega arith) number_rows (counts.number_rows_in_order mode drop n.0)) counted))
+        (eighth (test_of UnusedBitSet number_rows) false false (λ few. drop_unused_exactly mode few drop) (λ few. (λ e. e, λ e. e)) (λ few. (λ e. e, λ e. e))
+        (with_front (given_exactly Err (Ok numbered) of_pictured (λ k. refl) refl UnusedBitSet (omega arith) number_rows (counts.number_rows_in_order mode drop n.0)) counted))
 
     pub picture_refused_by_14 :
-        (picture_in mode drop n ≡ Unpictured 14)
+        (picture_in mode drop n ≡ Err NumberPastTheDay)
         ↔ ((mode ≤ 10) × (DropUnused mode drop → ⊥) × (pictures_in_day (rate_at mode) (pictures_at mode) (is_yes drop) ≤ n.0))
     picture_refused_by_14 =
         let day = pictures_in_day (rate_at mode) (pictures_at mode) (is_yes drop) in
         rw (counts.picture_rows mode drop n)
-        (ninth (test_of unused_bit_set number_rows) (test_of number_past_the_day number_rows) false (λ few. drop_unused_exactly mode few drop)
+        (ninth (test_of UnusedBitSet number_rows) (test_of NumberPastTheDay number_rows) false (λ few. drop_unused_exactly mode few drop)
         (λ few. (leb-true day n.0, le-leb day n.0)) (λ few. (λ e. e, λ e. e))
-        (with_front (given_exactly Unpictured (At numbered) of_pictured (λ k. refl) refl number_past_the_day (omega arith) number_rows (counts.number_rows_in_order mode drop n.0)) (
+        (with_front (given_exactly Err (Ok numbered) of_pictured (λ k. refl) refl NumberPastTheDay (omega arith) number_rows (counts.number_rows_in_order mode drop n.0)) (
           λ clear. ((counted_exactly mode).0 clear.0, clear.1.0),
           λ all. ((counted_exactly mode).1 all.0, (all.1, tt)),
         )))

@@ -6,9 +6,9 @@ use Prim.Native.Nat.{ℕ, ◌+◌, ◌≤◌}
 use mathlib.Core.List.{List}
 use mathlib.Core.Logic.{inl, inr, ⊎_elim}
 use lib.ListN.{length}
-use Rattle.refusals.specs.Table.{no_room}
+use Rattle.std.specs.Prelude.{Err, Ok}
+use Rattle.refusals.specs.declared.types.Refusal.TheVariants.{NoRoom}
 use Rattle.refusals.proofs.ByNumber.{clear_at}
-use Rattle.runs.specs.declared.types.Written.TheVariants.{Done, Refused}
 use Rattle.runs.proofs.Outcomes.{unchanged, apart, done_or_refused, done_clear, has_room}
 use Rattle.record.specs.declared.types.Record.{Record}
 use Rattle.polarity.specs.declared.types.Found.{Found}
@@ -38,32 +38,32 @@ ancillary_done_or_refused interface mode c start run byte =
 -- "A write that is turned away changes no element lent to it." Shut out: a write that stores before it looks.
 pub linear_unchanged : (make : Found) → Unchanged (linear make)
 unfolding ltc.written_of ltc.run_of
-linear_unchanged make mode r start run = unchanged Refused Done apart (ltc.written_rows mode r start run) start (word_of mode r make) run
+linear_unchanged make mode r start run = unchanged Err (Ok tt) apart (ltc.written_rows mode r start run) start (word_of mode r make) run
 
 pub interval_unchanged : Unchanged interval
 unfolding vitc.written_of
-interval_unchanged mode r start run = unchanged Refused Done apart (vitc.written_rows mode r start run) start (vitc.line_of mode r) run
+interval_unchanged mode r start run = unchanged Err (Ok tt) apart (vitc.written_rows mode r start run) start (vitc.line_of mode r) run
 
 pub ancillary_unchanged : (interface : Interface) → Unchanged (ancillary interface)
 unfolding atc.written_of atc.run_of
 ancillary_unchanged interface mode c start run =
-    unchanged Refused Done apart (atc.written_rows mode interface c.«record» c.payload_type c.second start run) start
+    unchanged Err (Ok tt) apart (atc.written_rows mode interface c.«record» c.payload_type c.second start run) start
     (atc.packet_of mode c.«record» c.payload_type c.second) run
 
 -- and it is turned away where there is no room
 pub linear_room : (make : Found) (mode : ℕ) (r : Record) (start : ℕ) (run : List ℕ) → (linear make).Writes mode r start run → start + 80 ≤ length run
 unfolding ltc.written_of ltc.written_rows
 linear_room make mode r start run done =
-    let rows = ltc.written_rows mode r start run in has_room 80 start (length run) (clear_at no_room rows (done_clear rows done))
+    let rows = ltc.written_rows mode r start run in has_room 80 start (length run) (clear_at NoRoom rows (done_clear rows done))
 
 pub interval_room : (mode : ℕ) (r : Record) (start : ℕ) (run : List ℕ) → interval.Writes mode r start run → start + 90 ≤ length run
 unfolding vitc.written_of
 interval_room mode r start run done =
-    let rows = vitc.written_rows mode r start run in has_room 90 start (length run) (clear_at no_room rows (done_clear rows done))
+    let rows = vitc.written_rows mode r start run in has_room 90 start (length run) (clear_at NoRoom rows (done_clear rows done))
 
 pub ancillary_room :
     (interface : Interface) (mode : ℕ) (c : Contents) (start : ℕ) (run : List ℕ) → (ancillary interface).Writes mode c start run → start + 23 ≤ length run
 unfolding atc.written_of
 ancillary_room interface mode c start run done =
     let rows = atc.written_rows mode interface c.«record» c.payload_type c.second start run in
-    has_room 23 start (length run) (clear_at no_room rows (done_clear rows done.1))
+    has_room 23 start (length run) (clear_at NoRoom rows (done_clear rows done.1))

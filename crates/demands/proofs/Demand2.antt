@@ -11,18 +11,16 @@ use mathlib.Core.List.{List}
 use mathlib.Core.Logic.{◌↔◌, ◌⊎◌}
 use native.Mathlib.Omega.{arith}
 use lib.ListN.{length, take, drop}
-use Rattle.refusals.specs.Table.{wrong_check}
+use Rattle.std.specs.Prelude.{Err, Ok}
+use Rattle.refusals.specs.declared.types.Refusal.TheVariants.{ImpossibleLine, MisnamedMode, OutsideTheClock, SkippedAddress, UnusedBitSet, WrongCheck}
 use Rattle.bits.specs.Bits.{some_above}
-use Rattle.runs.specs.declared.types.Written.TheVariants.{Refused as Unwritten}
 use Rattle.runs.specs.Run.{placed}
 use Rattle.runs.proofs.Parts.{read_back}
 use Rattle.rates.specs.declared.types.Flag.{Flag}
 use Rattle.rates.specs.declared.types.Flag.TheVariants.{No, Yes}
 use Rattle.rates.specs.declared.types.Rate.{Rate}
 use Rattle.clock.specs.declared.types.DayFrame.{DayFrame}
-use Rattle.clock.specs.declared.types.Numbered.TheVariants.{Number, Refused as Unnumbered}
 use Rattle.pictures.specs.declared.types.Picture.{Picture}
-use Rattle.pictures.specs.declared.types.Pictured.TheVariants.{At}
 use Rattle.pictures.specs.Pictures.{picture, pictures_in_day}
 use Rattle.pictures.specs.Steps.{picture_shown}
 use Rattle.pictures.specs.Calls.{number_of, picture_of}
@@ -39,7 +37,6 @@ use Rattle.modes.proofs.Counted.{number_by_row, picture_by_row}
 use Rattle.trips.proofs.Numbers.{one_to_one}
 use Rattle.polarity.specs.declared.types.Found.{Found}
 use Rattle.polarity.specs.declared.types.Found.TheVariants.{Corrected, Uncorrected}
-use Rattle.polarity.specs.declared.types.Word.TheVariants.{Holds as Read, Refused as Unread}
 use Rattle.polarity.specs.Word.{sync_word, word_with, odd_zeros, polarity_bit, found_in, word_of}
 use Rattle.ltc.specs.Calls.{read_of}
 use Rattle.trips.proofs.Polarity.{odd_found}
@@ -49,7 +46,6 @@ use Rattle.vitc.specs.Calls.{line_of}
 use Rattle.trips.proofs.Lines as vitc
 use Rattle.packets.specs.Packet.{type_in, second_in}
 use Rattle.atc.specs.declared.types.Interface.{Interface}
-use Rattle.atc.specs.declared.types.Packet.TheVariants.{Refused as Turned}
 use Rattle.atc.specs.declared.types.Interface.TheVariants.{HighDefinition}
 use Rattle.atc.specs.Calls.{packet_of, written_of, run_of, read_of as packet_read}
 use Rattle.trips.proofs.Packets as atc
@@ -78,31 +74,31 @@ pictures_after_midnight rate pictures drop some = picture_shown_lem (frames_in_s
 -- "State once, for any number of pictures to an address, that numbers and addresses match one to one": picture numbers below N times the day and pictures that are shown; and
 -- a picture is turned away exactly where no number of steps, picture by picture, shows it. Of `pictures::number_of` and `pictures::picture_of`, whatever the rate.
 module _ (rate : Rate) (pictures : ℕ) (drop : Flag) (some : 0 < pictures) where
-  pub numbers_and_pictures : (p : Picture) (n : DayFrame) → (number_of rate pictures drop p ≡ Number n) ↔ (picture_of rate pictures drop n ≡ At p)
+  pub numbers_and_pictures : (p : Picture) (n : DayFrame) → (number_of rate pictures drop p ≡ Ok n) ↔ (picture_of rate pictures drop n ≡ Ok p)
   numbers_and_pictures = any.one_to_one rate pictures drop some
 
   module _ (may : (is_yes drop && not (may_drop rate)) ≡ false) where
     pub every_picture_number : (n : ℕ) → n < pictures_in_day rate pictures (is_yes drop)
-        → picture_of rate pictures drop (record { 0 = n }) ≡ At (picture_shown (frames_in_second rate) pictures (is_yes drop) n)
+        → picture_of rate pictures drop (record { 0 = n }) ≡ Ok (picture_shown (frames_in_second rate) pictures (is_yes drop) n)
     every_picture_number = any.picture_is_shown rate pictures drop some may
 
     pub picture_turned_away_exactly :
         (p : Picture)
-        → ((number_of rate pictures drop p ≡ Unnumbered 8)
-        ⊎ ((number_of rate pictures drop p ≡ Unnumbered 9) ⊎ ((number_of rate pictures drop p ≡ Unnumbered 10) × (pictures ≡ 1) × (0 < p.place))))
+        → ((number_of rate pictures drop p ≡ Err OutsideTheClock)
+        ⊎ ((number_of rate pictures drop p ≡ Err SkippedAddress) ⊎ ((number_of rate pictures drop p ≡ Err UnusedBitSet) × (pictures ≡ 1) × (0 < p.place))))
         ↔ ((n : ℕ) → picture_shown (frames_in_second rate) pictures (is_yes drop) n ≡ p → ⊥)
     picture_turned_away_exactly = any.refused_exactly rate pictures drop some may
 
 -- "Frame numbers of a day and addresses match one to one, drop-frame or not": of `modes::number_of` and `modes::picture_of`, in every mode.
 pub numbers_and_addresses :
-    (mode : ℕ) (drop : Flag) (p : Picture) (n : DayFrame) → (number_in mode drop p ≡ Number n) ↔ (picture_in mode drop n ≡ At p)
+    (mode : ℕ) (drop : Flag) (p : Picture) (n : DayFrame) → (number_in mode drop p ≡ Ok n) ↔ (picture_in mode drop n ≡ Ok p)
 numbers_and_addresses = one_to_one
 
 module _ {mode : ℕ} {drop : Flag} (counts : CountingMode mode drop) where
   -- every number below the day's count has a picture: the one that the clock shows so many pictures after midnight. Shut out: drop-frame that skips pictures rather
   -- than numbers, and calls that refuse every number.
   pub every_number : (n : ℕ) → n < pictures_in_day (rate_at mode) (pictures_at mode) (is_yes drop)
-      → picture_in mode drop (record { 0 = n }) ≡ At (picture_shown (frames_in_second (rate_at mode)) (pictures_at mode) (is_yes drop) n)
+      → picture_in mode drop (record { 0 = n }) ≡ Ok (picture_shown (frames_in_second (rate_at mode)) (pictures_at mode) (is_yes drop) n)
   every_number n low =
       picture_by_row mode drop (record { 0 = n }) (known counts)
       ∙ every_picture_number (rate_at mode) (pictures_at mode) drop (some_picture mode) (allowed counts) n low
@@ -112,8 +108,8 @@ module _ {mode : ℕ} {drop : Flag} (counts : CountingMode mode drop) where
   -- is refused by is in Places.)
   pub turned_away_exactly :
       (p : Picture)
-      → ((number_in mode drop p ≡ Unnumbered 8)
-      ⊎ ((number_in mode drop p ≡ Unnumbered 9) ⊎ ((number_in mode drop p ≡ Unnumbered 10) × (pictures_at mode ≡ 1) × (0 < p.place))))
+      → ((number_in mode drop p ≡ Err OutsideTheClock)
+      ⊎ ((number_in mode drop p ≡ Err SkippedAddress) ⊎ ((number_in mode drop p ≡ Err UnusedBitSet) × (pictures_at mode ≡ 1) × (0 < p.place))))
       ↔ ((n : ℕ) → picture_shown (frames_in_second (rate_at mode)) (pictures_at mode) (is_yes drop) n ≡ p → ⊥)
   turned_away_exactly p =
       rw (number_by_row mode drop p (known counts)) (picture_turned_away_exactly (rate_at mode) (pictures_at mode) drop (some_picture mode) (allowed counts) p)
@@ -174,7 +170,7 @@ unfolding word_of
 found_as_made Corrected mode r ok can = ltc.corrected_found mode r ok
 found_as_made Uncorrected mode r ok odd = ap (λ (b : Bool). cond b Uncorrected Corrected) odd
 
-made_as_found : (make : Found) (mode : ℕ) (r : Record) (word : List ℕ) → read_of mode word ≡ Read r make → FoundAsMade make mode r
+made_as_found : (make : Found) (mode : ℕ) (r : Record) (word : List ℕ) → read_of mode word ≡ Ok (reading r make) → FoundAsMade make mode r
 unfolding word_of
 made_as_found Corrected mode r word reads = tt
 made_as_found Uncorrected mode r word reads = rw (ltc.written_of_read mode r Uncorrected word reads).1 (odd_found word (ltc.read_clear mode r Uncorrected word reads).2)
@@ -260,7 +256,7 @@ ancillary_accepts interface = accepting (ancillary interface) (ancillary_laws in
 -- then. Shut out: the old rule, by which odd zeros alone are refused, and one that never gives 5.
 pub linear_refused_by_5 :
     (mode : ℕ) (word : List ℕ)
-    → (read_of mode word ≡ Unread wrong_check)
+    → (read_of mode word ≡ Err WrongCheck)
     ↔ ((length word ≡ 80) × (unknown mode ≡ false) × (some_above 1 word ≡ false) × (drop 64 word ≡ sync_word)
     × (odd_zeros word ≡ true) × (polarity_bit (rate_at mode) word ≡ Yes))
 linear_refused_by_5 = five_exactly
@@ -288,7 +284,7 @@ pub linear_reads_back :
     → let left = take 80 (drop start ((linear make).leaves mode r start run)) in (linear (found_in left)).Reads mode left r
 linear_reads_back make mode r start run done =
     let reads = ltc.done_reads mode r make start run done in
-    reads ∙ ap (Read r) (sym (ltc.read_clear mode r _ _ reads).2)
+    reads ∙ ap (OkWord r) (sym (ltc.read_clear mode r _ _ reads).2)
 
 -- Some elements read as a content exactly where it is taken; as a record and what was found, where a word of it can be found so: as uncorrected, where its
 -- word with the polarity bit 0 has odd zeros. Shut out: a reader that refuses each word, or each uncorrected word; one that reports one fixed address; one that
@@ -328,7 +324,7 @@ both_exactly first second = (λ both. (first.0 both.0, second.0 both.1), λ both
 -- high definition checked; 8 given where 19 applies too; another table.
 pub ancillary_refused_by_19 :
     (interface : Interface) (mode : ℕ) (words : List ℕ)
-    → (packet_read mode interface words ≡ Turned 19)
+    → (packet_read mode interface words ≡ Err ImpossibleLine)
     ↔ (Form mode words × ((mode ≤ 5) × ClaimsImpossibleLine interface (type_in words) (second_in words)))
 ancillary_refused_by_19 interface mode words =
     as_claimed (with_front (read_refused_by_19 mode interface words) (form_exactly mode words))
@@ -336,7 +332,7 @@ ancillary_refused_by_19 interface mode words =
 
 pub ancillary_written_refused_by_19 :
     (interface : Interface) (mode : ℕ) (r : Record) (type second start : ℕ) (run : List ℕ)
-    → (written_of mode interface r type second start run ≡ Unwritten 19) ↔ ((mode ≤ 10) × ((mode ≤ 5) × ClaimsImpossibleLine interface type second))
+    → (written_of mode interface r type second start run ≡ Err ImpossibleLine) ↔ ((mode ≤ 10) × ((mode ≤ 5) × ClaimsImpossibleLine interface type second))
 ancillary_written_refused_by_19 interface mode r type second start run =
     as_claimed (with_front (written_refused_by_19 mode interface r type second start run) (counted_exactly mode))
     (λ few. both_exactly (low_exactly mode few) (impossible_exactly interface type second))
@@ -345,7 +341,7 @@ ancillary_written_refused_by_19 interface mode r type second start run =
 -- exactly then, whatever record they carry, and so of a write. Shut out: the second byte unchecked; 8 given where 23 applies too; another coding of the byte.
 pub ancillary_refused_by_23 :
     (interface : Interface) (mode : ℕ) (words : List ℕ)
-    → (packet_read mode interface words ≡ Turned 23)
+    → (packet_read mode interface words ≡ Err MisnamedMode)
     ↔ (Form mode words × (PayloadType mode (type_in words) × ((6 ≤ mode) × (Names mode (second_in words) → ⊥))))
 ancillary_refused_by_23 interface mode words =
     as_claimed (with_front (read_refused_by_23 mode interface words) (form_exactly mode words))
@@ -353,7 +349,7 @@ ancillary_refused_by_23 interface mode words =
 
 pub ancillary_written_refused_by_23 :
     (interface : Interface) (mode : ℕ) (r : Record) (type second start : ℕ) (run : List ℕ)
-    → (written_of mode interface r type second start run ≡ Unwritten 23)
+    → (written_of mode interface r type second start run ≡ Err MisnamedMode)
     ↔ ((mode ≤ 10) × (PayloadType mode type × ((6 ≤ mode) × (Names mode second → ⊥))))
 ancillary_written_refused_by_23 interface mode r type second start run =
     as_claimed (with_front (written_refused_by_23 mode interface r type second start run) (counted_exactly mode))

@@ -7,8 +7,8 @@ use mathlib.Core.Logic.{◌↔◌}
 use native.Mathlib.Omega.{arith}
 use lib.Dec.{ltb, eqb}
 use borrow.Author.Tests.{ltb-true, ltb-false, le-ltb, eqb-true, eq-eqb, ne_eqb, not-false}
+use Rattle.refusals.specs.declared.types.Refusal.TheVariants.{ImpossibleLine, MisnamedMode, UnknownType}
 use Rattle.runs.proofs.Same.{both_true}
-use Rattle.refusals.specs.Table.{unknown_type, impossible_line, misnamed_mode}
 use Rattle.refusals.proofs.Answered.{Clear, neither}
 use Rattle.refusals.proofs.ByNumber.{clear_at}
 use Rattle.rates.specs.Rates.{is_yes, frames_in_second}
@@ -159,9 +159,9 @@ module _ (mode : ℕ) (few : mode ≤ 10) where
   payload_exactly interface type second = (
     λ clear.
         (let rows = payload_refusals mode interface type second in (
-          (type_exactly type).0 (clear_at unknown_type rows clear),
-          λ claims. true≢false (sym ((impossible_exactly interface type second).1 claims) ∙ clear_at impossible_line rows clear),
-          (named_exactly second).0 (clear_at misnamed_mode rows clear),
+          (type_exactly type).0 (clear_at UnknownType rows clear),
+          λ claims. true≢false (sym ((impossible_exactly interface type second).1 claims) ∙ clear_at ImpossibleLine rows clear),
+          (named_exactly second).0 (clear_at MisnamedMode rows clear),
         )),
     λ ok. ((type_exactly type).1 ok.0, (possible interface type second ok.1, ((named_exactly second).1 ok.2, tt))),
   )

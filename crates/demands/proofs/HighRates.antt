@@ -5,7 +5,7 @@ use mathlib.Core.Path.{◌≡◌, refl, subst, ◌∙◌}
 use mathlib.Core.Bool.{Bool, true, false}
 use mathlib.Core.List.{List}
 use lib.ListN.{take}
-use Rattle.refusals.specs.Table.{unknown_mode, unknown_type, unused_bit_set}
+use Rattle.refusals.specs.declared.types.Refusal.TheVariants.{UnknownMode, UnknownType, UnusedBitSet}
 use Rattle.refusals.proofs.Answered.{neither}
 use Rattle.refusals.proofs.ByNumber.{clear_at, clear_before}
 use Rattle.layout.specs.Flags.{flag_at}
@@ -39,10 +39,10 @@ pub ancillary_sub_frames :
 ancillary_sub_frames interface mode words c more reads =
     let taken = read_clear mode interface words c reads in
     let rows = read_refusals mode interface words in
-    let few = (counted_exactly mode).0 (clear_at unknown_mode rows taken.0) in
+    let few = (counted_exactly mode).0 (clear_at UnknownMode rows taken.0) in
     let high = (high_exactly mode).1 (more, few) in
     let other = other_set (pictures_at mode) (record_in mode (info_of words)).flags in
-    let ten : other ≡ false = (neither other _ (rw high at (clear_at unused_bit_set rows taken.0))).0 in
+    let ten : other ≡ false = (neither other _ (rw high at (clear_at UnusedBitSet rows taken.0))).0 in
     let place : (carried_in mode words).«record».place ≡ said_at (column mode).used (info_of words) = rw high (said_as_printed mode more few (info_of words)) in (
       subst (λ (held : Contents). held.«record».place ≡ said_at (column mode).used (info_of words)) taken.1 place,
       (zeros_as_printed mode more few (info_of words)).0 ten,
@@ -68,5 +68,5 @@ ancillary_fields interface mode words c reads =
 pub ancillary_opens : (interface : Interface) (mode : ℕ) (words : List ℕ) (c : Contents) → (ancillary interface).Reads mode words c → take 6 words ≡ opening mode
 ancillary_opens interface mode words c reads =
     let taken = read_clear mode interface words c reads in
-    let few = (counted_exactly mode).0 (clear_at unknown_mode (read_refusals mode interface words) taken.0) in
-    begins mode words (clear_before unknown_type (read_refusals mode interface words) taken.0) ∙ opens mode few
+    let few = (counted_exactly mode).0 (clear_at UnknownMode (read_refusals mode interface words) taken.0) in
+    begins mode words (clear_before UnknownType (read_refusals mode interface words) taken.0) ∙ opens mode few

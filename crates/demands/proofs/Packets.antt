@@ -2,8 +2,8 @@
 -- Assumes nothing.
 use Prim.Native.Nat.{ℕ}
 use mathlib.Core.Logic.{◌↔◌}
-use Rattle.refusals.specs.Table.{mark_set}
-use Rattle.refusals.specs.Answer.{Refusal}
+use Rattle.refusals.specs.declared.types.Refusal.TheVariants.{MarkSet}
+use Rattle.refusals.specs.Answer.{Cause}
 use Rattle.refusals.proofs.ByNumber.{clear_at, clear_before, clear_whole}
 use mathlib.Core.List.{List}
 use Rattle.modes.specs.Modes.{with_counting}
@@ -26,7 +26,7 @@ module _ (mode : ℕ) (interface : Interface) (c : Contents) where
       × (PayloadType mode c.payload_type × (ClaimsImpossibleLine interface c.payload_type c.second → ⊥) × NamesMode mode c.second)
       × PacketShows mode c.payload_type c.«record»
 
-  abbrev rows : List Refusal
+  abbrev rows : List Cause
   rows = with_counting mode (carried_refusals mode c.payload_type c.«record»)
 
   pub packet_exactly : atc.Acceptable mode interface c.«record» c.payload_type c.second ↔ Holdable
@@ -34,15 +34,15 @@ module _ (mode : ℕ) (interface : Interface) (c : Contents) where
     where
       there : atc.Acceptable mode interface c.«record» c.payload_type c.second → Holdable
       there ok =
-          let able = (acceptable_exactly mode c.«record»).0 (clear_before mark_set rows ok.0) in (
+          let able = (acceptable_exactly mode c.«record»).0 (clear_before MarkSet rows ok.0) in (
             able,
             (payload_exactly mode ((counted_exactly mode).0 (known able.counts)) interface c.payload_type c.second).0 ok.1,
-            (packet_shows_exactly mode c.«record» able c.payload_type).0 (clear_at mark_set rows ok.0),
+            (packet_shows_exactly mode c.«record» able c.payload_type).0 (clear_at MarkSet rows ok.0),
           )
 
       back : Holdable → atc.Acceptable mode interface c.«record» c.payload_type c.second
       back ok = (
-        clear_whole mark_set rows ((acceptable_exactly mode c.«record»).1 ok.0)
+        clear_whole MarkSet rows ((acceptable_exactly mode c.«record»).1 ok.0)
             ((packet_shows_exactly mode c.«record» ok.0 c.payload_type).1 ok.2, tt),
         (payload_exactly mode ((counted_exactly mode).0 (known ok.0.counts)) interface c.payload_type c.second).1 ok.1,
       )

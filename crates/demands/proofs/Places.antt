@@ -8,20 +8,19 @@ use mathlib.Core.Logic.{◌↔◌}
 use native.Mathlib.Omega.{arith}
 use lib.Dec.{ltb}
 use borrow.Author.Tests.{lt-ltb, le-leb}
-use Rattle.refusals.specs.Table.{unknown_mode, outside_the_clock, skipped_address}
+use Rattle.std.specs.Prelude.{Err, Ok}
+use Rattle.refusals.specs.declared.types.Refusal.TheVariants.{OutsideTheClock, SkippedAddress, UnknownMode, UnusedBitSet}
 use Rattle.refusals.proofs.Answered.{neither, accepted_as}
 use Rattle.refusals.proofs.ByNumber.{clear_at}
 use Rattle.rates.specs.declared.types.Flag.{Flag}
 use Rattle.rates.specs.declared.types.Flag.TheVariants.{No}
 use Rattle.clock.specs.declared.types.DayFrame.{DayFrame}
-use Rattle.clock.specs.declared.types.Numbered.TheVariants.{Number, Refused as Unnumbered}
 use Rattle.midnight.proofs.Answers.{no_number}
 use Rattle.pictures.specs.declared.types.Picture.{Picture}
 use Rattle.pictures.specs.Pictures.{picture}
 use Rattle.pictures.specs.Calls.{picture_refusals, number_of}
 use Rattle.record.specs.declared.types.Record.{Record}
 use Rattle.rates.specs.Rates.{is_yes}
-use Rattle.record.specs.declared.types.Packed.TheVariants.{Bits, Refused as Unpackable}
 use Rattle.record.specs.Record.{at_place}
 use Rattle.modes.specs.declared.types.Shows.{Shows}
 use Rattle.modes.specs.declared.types.Shows.TheVariants.{First, ByMark}
@@ -49,43 +48,43 @@ use Rattle.demands.proofs.Families.{payload_exactly}
 -- "Pair place 1 in a record of modes 0 to 2 is refused by 10", and any other place but the first: of a record that is carried at the first, whatever shows the picture. Shut
 -- out: 8 given for it, or the place unread.
 pub place_refused_by_10 :
-    (mode : ℕ) (shows : Shows) (r : Record) (n : ℕ) → mode < 3 → carried_in mode shows (at_place 0 r) ≡ Bits n → (FirstPicture r → ⊥)
-    → carried_in mode shows r ≡ Unpackable 10
+    (mode : ℕ) (shows : Shows) (r : Record) (n : ℕ) → mode < 3 → carried_in mode shows (at_place 0 r) ≡ Ok n → (FirstPicture r → ⊥)
+    → carried_in mode shows r ≡ Err UnusedBitSet
 unfolding carried_in
 place_refused_by_10 mode shows r n few stands other =
     let rows = carried_rows mode (at_place 0 r) shows in
     let clear = (carried_is mode (at_place 0 r) shows n stands).0 in
     let one = alone mode few in
-    let eight = clear_at outside_the_clock rows clear in
+    let eight = clear_at OutsideTheClock rows clear in
     let some : ltb 0 r.place ≡ true = lt-ltb 0 r.place (omega arith) in
-    rw (clear_at unknown_mode rows clear, one, (rw one at eight), clear_at skipped_address rows clear, some)
+    rw (clear_at UnknownMode rows clear, one, (rw one at eight), clear_at SkippedAddress rows clear, some)
 
 -- In modes 3 to 5 a place that is not below 2 is refused by 8, whatever else is wrong but the mode: of a record on a line. Of a picture that is counted, "in modes 3 to 10
 -- refused by 8 if not below the pictures to an address". Shut out: 10 given for it; place 3 of 72 counted, or place 5 of 24x5.
 pub place_refused_by_8 :
-    (mode : ℕ) (shows : Shows) (r : Record) → 3 ≤ mode → mode ≤ 5 → 2 ≤ r.place → carried_in mode shows r ≡ Unpackable 8
+    (mode : ℕ) (shows : Shows) (r : Record) → 3 ≤ mode → mode ≤ 5 → 2 ≤ r.place → carried_in mode shows r ≡ Err OutsideTheClock
 unfolding carried_in
 place_refused_by_8 mode shows r pair few high = rw ((known_exactly mode).1 few, pairs mode pair few, le-leb 2 r.place high)
 
 pub counted_place_refused_by_8 :
-    (mode : ℕ) (drop : Flag) (p : Picture) → 3 ≤ mode → mode ≤ 10 → pictures_at mode ≤ p.place → number_in mode drop p ≡ Unnumbered 8
+    (mode : ℕ) (drop : Flag) (p : Picture) → 3 ≤ mode → mode ≤ 10 → pictures_at mode ≤ p.place → number_in mode drop p ≡ Err OutsideTheClock
 unfolding number_in number_of
 counted_place_refused_by_8 mode drop p more few high =
     rw ((counted_exactly mode).1 few, lt-ltb 1 (pictures_at mode) (several_share mode more), le-leb (pictures_at mode) p.place high)
 
 -- and in modes 0 to 2 any place but the first by 10, as of a record: of a picture whose address has a number. Shut out: 8 given for it.
 pub counted_place_refused_by_10 :
-    (mode : ℕ) (drop : Flag) (p : Picture) (n : DayFrame) → mode < 3 → number_in mode drop (picture p.address 0) ≡ Number n → (p.place ≡ 0 → ⊥)
-    → number_in mode drop p ≡ Unnumbered 10
+    (mode : ℕ) (drop : Flag) (p : Picture) (n : DayFrame) → mode < 3 → number_in mode drop (picture p.address 0) ≡ Ok n → (p.place ≡ 0 → ⊥)
+    → number_in mode drop p ≡ Err UnusedBitSet
 unfolding number_in number_of
 counted_place_refused_by_10 mode drop p n few stands other =
     let first = picture p.address 0 in
     let rows = with_counting mode (picture_refusals (rate_at mode) (pictures_at mode) drop first) in
-    let clear = (accepted_as Unnumbered _ rows (Number n) no_number (sym (number_rows mode drop first) ∙ stands)).0 in
+    let clear = (accepted_as Err _ rows (Ok n) no_number (sym (number_rows mode drop first) ∙ stands)).0 in
     let one = alone mode few in
-    let eight = clear_at outside_the_clock rows clear in
+    let eight = clear_at OutsideTheClock rows clear in
     let some : ltb 0 p.place ≡ true = lt-ltb 0 p.place (omega arith) in
-    rw (clear_at unknown_mode rows clear, one, (rw one at eight), clear_at skipped_address rows clear, some)
+    rw (clear_at UnknownMode rows clear, one, (rw one at eight), clear_at SkippedAddress rows clear, some)
 
 -- Document 02, A4: "In modes 3 to 5 a VITC line or packet of type 1 or 2 is refused by 11 if the record's mark and pair place differ; LTC and type 0 refuse a second picture
 -- by 11": of a record that is acceptable exactly then, whether or not there is room. Shut out: the mark unchecked on VITC; type 0 refused for its mark; a second picture

@@ -7,19 +7,18 @@ use mathlib.Core.Bool.{Bool, true, false, true≢false}
 use mathlib.Core.List.{List}
 use mathlib.Core.Logic.{◌↔◌}
 use native.Mathlib.Omega.{arith}
-use Rattle.refusals.specs.Table.{unknown_mode, unknown_type, outside_the_clock, skipped_address, unused_bit_set}
-use Rattle.refusals.specs.Answer.{Refusal, test_of}
+use Rattle.refusals.specs.declared.types.Refusal.TheVariants.{OutsideTheClock, SkippedAddress, UnknownMode, UnknownType, UnusedBitSet}
+use Rattle.std.specs.Prelude.{Err, Ok}
+use Rattle.refusals.specs.Answer.{Cause, test_of}
 use Rattle.refusals.proofs.Answered.{Clear}
 use Rattle.refusals.proofs.ByNumber.{rows_before, clear_at, clear_from, clear_before, clear_whole}
 use Rattle.refusals.proofs.First.{given_exactly}
-use Rattle.runs.specs.declared.types.Written.TheVariants.{Done, Refused as Unwritten}
 use Rattle.layout.specs.Flags.{flag_at}
 use Rattle.record.specs.declared.types.Record.{Record}
 use Rattle.record.specs.Record.{address_held, record_of}
 use Rattle.words.specs.Words.{info_in}
 use Rattle.packets.specs.Packet.{data_in, type_in, second_in}
 use Rattle.atc.specs.declared.types.Interface.{Interface}
-use Rattle.atc.specs.declared.types.Packet.TheVariants.{Refused as Turned}
 use Rattle.atc.specs.Calls.{read_refusals, read_of, written_rows, written_of}
 use Rattle.atc.proofs.Answers.{read_rows_in_order, written_rows_in_order}
 use Rattle.trips.proofs.Nineteen.{of_packet, of_written}
@@ -66,60 +65,60 @@ module _ (interface : Interface) (mode : ℕ) where
   Sound type second = PayloadType mode type × (ClaimsImpossibleLine interface type second → ⊥) × NamesMode mode second
 
   module _ (r : Record) (type second start : ℕ) (run : List ℕ) where
-    abbrev rows : List Refusal
+    abbrev rows : List Cause
     rows = written_rows mode interface r type second start run
 
     abbrev Before : Type 0
     Before = (mode ≤ 10) × Sound type second
 
-    front : Clear (rows_before outside_the_clock rows) ↔ Before
+    front : Clear (rows_before OutsideTheClock rows) ↔ Before
     front = (
       λ clear.
-          (let few = (counted_exactly mode).0 (clear_at unknown_mode (rows_before outside_the_clock rows) clear) in
-          (few, (payload_exactly mode few interface type second).0 (clear_from unknown_type (rows_before outside_the_clock rows) clear))),
+          (let few = (counted_exactly mode).0 (clear_at UnknownMode (rows_before OutsideTheClock rows) clear) in
+          (few, (payload_exactly mode few interface type second).0 (clear_from UnknownType (rows_before OutsideTheClock rows) clear))),
       λ ok. ((counted_exactly mode).1 ok.0, (payload_exactly mode ok.0 interface type second).1 ok.1),
     )
 
-    pub ancillary_written_refused_by_8 : (written_of mode interface r type second start run ≡ Unwritten 8) ↔ (Before × Eight mode r)
+    pub ancillary_written_refused_by_8 : (written_of mode interface r type second start run ≡ Err OutsideTheClock) ↔ (Before × Eight mode r)
     unfolding written_of
     ancillary_written_refused_by_8 =
         let exactly =
-        given_exactly Unwritten Done of_written (λ k. refl) refl outside_the_clock (omega arith) rows (written_rows_in_order mode interface r type second start run) in
-        eighth (test_of outside_the_clock rows) (test_of skipped_address rows) (test_of unused_bit_set rows)
+        given_exactly Err (Ok tt) of_written (λ k. refl) refl OutsideTheClock (omega arith) rows (written_rows_in_order mode interface r type second start run) in
+        eighth (test_of OutsideTheClock rows) (test_of SkippedAddress rows) (test_of UnusedBitSet rows)
         (λ before. eight_exactly mode before.0 r) (λ before. nine_exactly mode before.0 r.flags.drop r.address) (λ before. ten_exactly mode before.0 r)
         (with_front exactly front)
 
     pub ancillary_written_refused_by_9 :
-        (written_of mode interface r type second start run ≡ Unwritten 9) ↔ (Before × (Eight mode r → ⊥) × Nine mode r.flags.drop r.address)
+        (written_of mode interface r type second start run ≡ Err SkippedAddress) ↔ (Before × (Eight mode r → ⊥) × Nine mode r.flags.drop r.address)
     unfolding written_of
     ancillary_written_refused_by_9 =
         let exactly =
-        given_exactly Unwritten Done of_written (λ k. refl) refl skipped_address (omega arith) rows (written_rows_in_order mode interface r type second start run) in
-        let up_to_lem = rows_before skipped_address rows in
-        ninth (test_of outside_the_clock rows) (test_of skipped_address rows) (test_of unused_bit_set rows)
+        given_exactly Err (Ok tt) of_written (λ k. refl) refl SkippedAddress (omega arith) rows (written_rows_in_order mode interface r type second start run) in
+        let up_to_lem = rows_before SkippedAddress rows in
+        ninth (test_of OutsideTheClock rows) (test_of SkippedAddress rows) (test_of UnusedBitSet rows)
         (λ before. eight_exactly mode before.0 r) (λ before. nine_exactly mode before.0 r.flags.drop r.address) (λ before. ten_exactly mode before.0 r)
         (with_front exactly (
-          λ clear. (front.0 (clear_before outside_the_clock up_to_lem clear), clear_at outside_the_clock up_to_lem clear),
-          λ all. clear_whole outside_the_clock up_to_lem (front.1 all.0) (all.1, tt),
+          λ clear. (front.0 (clear_before OutsideTheClock up_to_lem clear), clear_at OutsideTheClock up_to_lem clear),
+          λ all. clear_whole OutsideTheClock up_to_lem (front.1 all.0) (all.1, tt),
         ))
 
     pub ancillary_written_refused_by_10 :
-        (written_of mode interface r type second start run ≡ Unwritten 10)
+        (written_of mode interface r type second start run ≡ Err UnusedBitSet)
         ↔ (Before × (Eight mode r → ⊥) × (Nine mode r.flags.drop r.address → ⊥) × Ten mode r)
     unfolding written_of
     ancillary_written_refused_by_10 =
         let exactly =
-        given_exactly Unwritten Done of_written (λ k. refl) refl unused_bit_set (omega arith) rows (written_rows_in_order mode interface r type second start run) in
-        let up_to_lem = rows_before unused_bit_set rows in
-        tenth (test_of outside_the_clock rows) (test_of skipped_address rows) (test_of unused_bit_set rows)
+        given_exactly Err (Ok tt) of_written (λ k. refl) refl UnusedBitSet (omega arith) rows (written_rows_in_order mode interface r type second start run) in
+        let up_to_lem = rows_before UnusedBitSet rows in
+        tenth (test_of OutsideTheClock rows) (test_of SkippedAddress rows) (test_of UnusedBitSet rows)
         (λ before. eight_exactly mode before.0 r) (λ before. nine_exactly mode before.0 r.flags.drop r.address) (λ before. ten_exactly mode before.0 r)
         (with_front exactly (
-          λ clear. ((front.0 (clear_before outside_the_clock up_to_lem clear), clear_at outside_the_clock up_to_lem clear), clear_at skipped_address up_to_lem clear),
-          λ all. clear_whole outside_the_clock up_to_lem (front.1 all.0.0) (all.0.1, (all.1, tt)),
+          λ clear. ((front.0 (clear_before OutsideTheClock up_to_lem clear), clear_at OutsideTheClock up_to_lem clear), clear_at SkippedAddress up_to_lem clear),
+          λ all. clear_whole OutsideTheClock up_to_lem (front.1 all.0.0) (all.0.1, (all.1, tt)),
         ))
 
   module _ (words : List ℕ) where
-    abbrev read_rows : List Refusal
+    abbrev read_rows : List Cause
     read_rows = read_refusals mode interface words
 
     abbrev info : ℕ
@@ -131,50 +130,50 @@ module _ (interface : Interface) (mode : ℕ) where
     few_of : ReadBefore → mode ≤ 10
     few_of ok = ok.0.counted
 
-    read_front : Clear (rows_before outside_the_clock read_rows) ↔ ReadBefore
+    read_front : Clear (rows_before OutsideTheClock read_rows) ↔ ReadBefore
     read_front =
-        let up_to_lem = rows_before outside_the_clock read_rows in (
+        let up_to_lem = rows_before OutsideTheClock read_rows in (
           λ clear.
-              (let form = clear_before unknown_type up_to_lem clear in
-              let few = (counted_exactly mode).0 (clear_at unknown_mode up_to_lem clear) in
-              ((form_exactly mode words).0 form, (payload_exactly mode few interface (type_in words) (second_in words)).0 (clear_from unknown_type up_to_lem clear))),
-          λ ok. clear_whole unknown_type up_to_lem ((form_exactly mode words).1 ok.0) ((payload_exactly mode (few_of ok) interface (type_in words) (second_in words)).1 ok.1),
+              (let form = clear_before UnknownType up_to_lem clear in
+              let few = (counted_exactly mode).0 (clear_at UnknownMode up_to_lem clear) in
+              ((form_exactly mode words).0 form, (payload_exactly mode few interface (type_in words) (second_in words)).0 (clear_from UnknownType up_to_lem clear))),
+          λ ok. clear_whole UnknownType up_to_lem ((form_exactly mode words).1 ok.0) ((payload_exactly mode (few_of ok) interface (type_in words) (second_in words)).1 ok.1),
         )
 
-    pub ancillary_refused_by_8 : (read_of mode interface words ≡ Turned 8) ↔ (ReadBefore × EightHeld mode info)
+    pub ancillary_refused_by_8 : (read_of mode interface words ≡ Err OutsideTheClock) ↔ (ReadBefore × EightHeld mode info)
     unfolding read_of record_of
     ancillary_refused_by_8 =
-        let exactly = given_exactly Turned _ of_packet (λ k. refl) refl outside_the_clock (omega arith) read_rows (read_rows_in_order mode interface words) in
-        eighth (test_of outside_the_clock read_rows) (test_of skipped_address read_rows) (test_of unused_bit_set read_rows)
+        let exactly = given_exactly Err _ of_packet (λ k. refl) refl OutsideTheClock (omega arith) read_rows (read_rows_in_order mode interface words) in
+        eighth (test_of OutsideTheClock read_rows) (test_of SkippedAddress read_rows) (test_of UnusedBitSet read_rows)
         (λ before. eight_held_exactly mode (few_of before) info) (λ before. nine_exactly mode (few_of before) (flag_at 10 info) (address_held info))
         (λ before. ten_held_exactly mode (few_of before) info)
         (with_front exactly read_front)
 
     pub ancillary_refused_by_9 :
-        (read_of mode interface words ≡ Turned 9) ↔ (ReadBefore × (EightHeld mode info → ⊥) × Nine mode (flag_at 10 info) (address_held info))
+        (read_of mode interface words ≡ Err SkippedAddress) ↔ (ReadBefore × (EightHeld mode info → ⊥) × Nine mode (flag_at 10 info) (address_held info))
     unfolding read_of record_of
     ancillary_refused_by_9 =
-        let exactly = given_exactly Turned _ of_packet (λ k. refl) refl skipped_address (omega arith) read_rows (read_rows_in_order mode interface words) in
-        let up_to_lem = rows_before skipped_address read_rows in
-        ninth (test_of outside_the_clock read_rows) (test_of skipped_address read_rows) (test_of unused_bit_set read_rows)
+        let exactly = given_exactly Err _ of_packet (λ k. refl) refl SkippedAddress (omega arith) read_rows (read_rows_in_order mode interface words) in
+        let up_to_lem = rows_before SkippedAddress read_rows in
+        ninth (test_of OutsideTheClock read_rows) (test_of SkippedAddress read_rows) (test_of UnusedBitSet read_rows)
         (λ before. eight_held_exactly mode (few_of before) info) (λ before. nine_exactly mode (few_of before) (flag_at 10 info) (address_held info))
         (λ before. ten_held_exactly mode (few_of before) info)
         (with_front exactly (
-          λ clear. (read_front.0 (clear_before outside_the_clock up_to_lem clear), clear_at outside_the_clock up_to_lem clear),
-          λ all. clear_whole outside_the_clock up_to_lem (read_front.1 all.0) (all.1, tt),
+          λ clear. (read_front.0 (clear_before OutsideTheClock up_to_lem clear), clear_at OutsideTheClock up_to_lem clear),
+          λ all. clear_whole OutsideTheClock up_to_lem (read_front.1 all.0) (all.1, tt),
         ))
 
     pub ancillary_refused_by_10 :
-        (read_of mode interface words ≡ Turned 10)
+        (read_of mode interface words ≡ Err UnusedBitSet)
         ↔ (ReadBefore × (EightHeld mode info → ⊥) × (Nine mode (flag_at 10 info) (address_held info) → ⊥) × TenHeld mode info)
     unfolding read_of record_of
     ancillary_refused_by_10 =
-        let exactly = given_exactly Turned _ of_packet (λ k. refl) refl unused_bit_set (omega arith) read_rows (read_rows_in_order mode interface words) in
-        let up_to_lem = rows_before unused_bit_set read_rows in
-        tenth (test_of outside_the_clock read_rows) (test_of skipped_address read_rows) (test_of unused_bit_set read_rows)
+        let exactly = given_exactly Err _ of_packet (λ k. refl) refl UnusedBitSet (omega arith) read_rows (read_rows_in_order mode interface words) in
+        let up_to_lem = rows_before UnusedBitSet read_rows in
+        tenth (test_of OutsideTheClock read_rows) (test_of SkippedAddress read_rows) (test_of UnusedBitSet read_rows)
         (λ before. eight_held_exactly mode (few_of before) info) (λ before. nine_exactly mode (few_of before) (flag_at 10 info) (address_held info))
         (λ before. ten_held_exactly mode (few_of before) info)
         (with_front exactly (
-          λ clear. ((read_front.0 (clear_before outside_the_clock up_to_lem clear), clear_at outside_the_clock up_to_lem clear), clear_at skipped_address up_to_lem clear),
-          λ all. clear_whole outside_the_clock up_to_lem (read_front.1 all.0.0) (all.0.1, (all.1, tt)),
+          λ clear. ((read_front.0 (clear_before OutsideTheClock up_to_lem clear), clear_at OutsideTheClock up_to_lem clear), clear_at SkippedAddress up_to_lem clear),
+          λ all. clear_whole OutsideTheClock up_to_lem (read_front.1 all.0.0) (all.0.1, (all.1, tt)),
         ))

@@ -11,12 +11,13 @@ use native.Mathlib.Omega.{arith}
 use lib.Dec.{eqb}
 use lib.ListN.{length, drop}
 use borrow.Author.Tests.{eqb-true, eq-eqb, le-ltb}
+use Rattle.polarity.specs.declared.types.Word.{Word}
+use Rattle.refusals.specs.declared.types.Refusal.{Refusal}
+use Rattle.std.specs.Prelude.{Err, Result}
 use Rattle.runs.specs.Run.{same}
 use Rattle.runs.proofs.Same.{same_elements, same_itself, both_true}
 use Rattle.record.specs.declared.types.Record.{Record}
 use Rattle.polarity.specs.declared.types.Found.{Found}
-use Rattle.polarity.specs.declared.types.Word.{Word}
-use Rattle.polarity.specs.declared.types.Word.TheVariants.{Holds, Refused as Unheld}
 use Rattle.polarity.specs.Word.{sync_word}
 use Rattle.ltc.specs.Calls.{read_of}
 use Rattle.modes.specs.Modes.{unknown}
@@ -52,7 +53,7 @@ forward_only_as_before mode bits = or_nothing (forward_in mode bits)
 
 -- "A window may not be both; prove it": one that ends in the forward sync word, accepted or refused, is not accepted when it is turned round.
 pub not_accepted_turned :
-    (mode : ℕ) (window : List ℕ) → drop 64 window ≡ sync_word → (r : Record) (found : Found) → read_of mode (reverse window) ≡ Holds r found → ⊥
+    (mode : ℕ) (window : List ℕ) → drop 64 window ≡ sync_word → (r : Record) (found : Found) → read_of mode (reverse window) ≡ Ok (reading r found) → ⊥
 not_accepted_turned mode window ends r found read =
     not_both_ways window ends record { bits = reverse window; says = r; found = found; accepted = read } refl
 
@@ -95,15 +96,15 @@ module _ (mode : ℕ) (bits : List ℕ) where
   unfolding heard_in forward_in backward_in
   window ways = go (eqb (length bits) 80 && same (drop 64 bits) sync_word) refl
     where
-      turned : (also : Ways) → ways ≡ also → forward_in mode bits ≡ Nothing → (word : Word) → read_of mode (reverse bits) ≡ word → Window ways
+      turned : (also : Ways) → ways ≡ also → forward_in mode bits ≡ Nothing → (word : Result Word Refusal) → read_of mode (reverse bits) ≡ word → Window ways
       turned ForwardOnly hears none word is = neither (rw (none, hears))
-      turned Both hears none (Holds r found) is =
+      turned Both hears none (Ok (reading r found)) is =
           backward record { bits = reverse bits; says = r; found = found; accepted = is } refl hears (rw (none, hears, is))
-      turned Both hears none (Unheld n) is = neither (rw (none, hears, is))
+      turned Both hears none (Err n) is = neither (rw (none, hears, is))
 
-      said : (word : Word) → read_of mode bits ≡ word → or_else (told word) (backward_in mode ways bits) ≡ told word
-      said (Holds r found) is = refl
-      said (Unheld n) is = refl
+      said : (word : Result Word Refusal) → read_of mode bits ≡ word → or_else (told word) (backward_in mode ways bits) ≡ told word
+      said (Ok (reading r found)) is = refl
+      said (Err n) is = refl
 
       go : (t : Bool) → (eqb (length bits) 80 && same (drop 64 bits) sync_word) ≡ t → Window ways
       go true t =
@@ -132,26 +133,26 @@ runs_backward Forward = false
 runs_backward Backward = true
 
 -- an accepted word that is told is the word's own record, found so, and runs forward
-told_accepted : (word : Word) (r : Record) (found : Found) (way : Way) → told word ≡ Accepted (reporting r found way) → (word ≡ Holds r found) × (way ≡ Forward)
+told_accepted : (word : Result Word Refusal) (r : Record) (found : Found) (way : Way) → told word ≡ Accepted (reporting r found way) → (word ≡ Ok (reading r found)) × (way ≡ Forward)
 unfolding kind report_in
-told_accepted (Holds held seen) r found way e =
+told_accepted (Ok (reading held seen)) r found way e =
     let same : reporting held seen Forward ≡ reporting r found way = ap (report_in (reporting r found way)) e in
-    (ap₂ Holds (ap (λ (report : Report). report.«record») same) (ap (λ (report : Report). report.found) same), sym (ap (λ (report : Report). report.way) same))
-told_accepted (Unheld n) r found way e = let two : ◌≡◌ {A = ℕ} 2 1 = ap kind e in absurd (omega arith)
+    (ap₂ OkWord (ap (λ (report : Report). report.«record») same) (ap (λ (report : Report). report.found) same), sym (ap (λ (report : Report). report.way) same))
+told_accepted (Err n) r found way e = let two : ◌≡◌ {A = ℕ} 2 1 = ap kind e in absurd (omega arith)
 
-told_refused : (word : Word) (n : ℕ) → told word ≡ Refused n → word ≡ Unheld n
+told_refused : (word : Result Word Refusal) (n : Refusal) → told word ≡ Refused n → word ≡ Err n
 unfolding kind number_in
-told_refused (Holds r found) n e = let one : ◌≡◌ {A = ℕ} 1 2 = ap kind e in absurd (omega arith)
-told_refused (Unheld k) n e = ap Unheld (ap number_in e)
+told_refused (Ok (reading r found)) n e = let one : ◌≡◌ {A = ℕ} 1 2 = ap kind e in absurd (omega arith)
+told_refused (Err k) n e = ap Err (ap number_in e)
 
 module _ (mode : ℕ) (ways : Ways) (bits : List ℕ) where
   -- A report forward: exactly of a window that is an accepted word, whatever is allowed.
-  pub forward_exactly : (r : Record) (found : Found) → (heard_in mode ways bits ≡ Accepted (reporting r found Forward)) ↔ (read_of mode bits ≡ Holds r found)
+  pub forward_exactly : (r : Record) (found : Found) → (heard_in mode ways bits ≡ Accepted (reporting r found Forward)) ↔ (read_of mode bits ≡ Ok (reading r found))
   unfolding kind report_in runs_backward
   forward_exactly r found =
       (λ e. there (window mode bits ways) e, λ is. heard_forward record { bits = bits; says = r; found = found; accepted = is } ways)
     where
-      there : Window mode bits ways → heard_in mode ways bits ≡ Accepted (reporting r found Forward) → read_of mode bits ≡ Holds r found
+      there : Window mode bits ways → heard_in mode ways bits ≡ Accepted (reporting r found Forward) → read_of mode bits ≡ Ok (reading r found)
       there (forward long synced is) e = (told_accepted (read_of mode bits) r found Forward (sym is ∙ e)).0
       there (backward word turned both is) e =
           absurd (true≢false (ap (λ (heard : Heard). runs_backward (report_in (reporting r found Forward) heard).way) (sym is ∙ e)))
@@ -160,19 +161,19 @@ module _ (mode : ℕ) (ways : Ways) (bits : List ℕ) where
   -- "With reverse allowed, a window of 80 bits that reads backwards as an accepted word is reported as such, with its direction": exactly such a window.
   pub backward_exactly :
       (r : Record) (found : Found)
-      → (heard_in mode ways bits ≡ Accepted (reporting r found Backward)) ↔ ((ways ≡ Both) × (read_of mode (reverse bits) ≡ Holds r found))
+      → (heard_in mode ways bits ≡ Accepted (reporting r found Backward)) ↔ ((ways ≡ Both) × (read_of mode (reverse bits) ≡ Ok (reading r found)))
   unfolding kind report_in runs_backward
   backward_exactly r found = (λ e. there (window mode bits ways) e, back)
     where
-      there : Window mode bits ways → heard_in mode ways bits ≡ Accepted (reporting r found Backward) → (ways ≡ Both) × (read_of mode (reverse bits) ≡ Holds r found)
+      there : Window mode bits ways → heard_in mode ways bits ≡ Accepted (reporting r found Backward) → (ways ≡ Both) × (read_of mode (reverse bits) ≡ Ok (reading r found))
       there (forward long synced is) e =
           absurd (true≢false (ap runs_backward (told_accepted (read_of mode bits) r found Backward (sym is ∙ e)).1))
       there (backward word turned both is) e =
           let same = ap (report_in (reporting r found Backward)) (sym is ∙ e) in
-          (both, ap (read_of mode) (sym turned) ∙ word.accepted ∙ ap₂ Holds (ap (λ (report : Report). report.«record») same) (ap (λ (report : Report). report.found) same))
+          (both, ap (read_of mode) (sym turned) ∙ word.accepted ∙ ap₂ OkWord (ap (λ (report : Report). report.«record») same) (ap (λ (report : Report). report.found) same))
       there (neither is) e = let none : ◌≡◌ {A = ℕ} 0 1 = ap kind (sym is ∙ e) in absurd (omega arith)
 
-      back : (ways ≡ Both) × (read_of mode (reverse bits) ≡ Holds r found) → heard_in mode ways bits ≡ Accepted (reporting r found Backward)
+      back : (ways ≡ Both) × (read_of mode (reverse bits) ≡ Ok (reading r found)) → heard_in mode ways bits ≡ Accepted (reporting r found Backward)
       back given =
           ap₂ (λ (w : Ways) (l : List ℕ). heard_in mode w l) given.0 (sym (reverse-reverse bits))
           ∙ heard_backward record { bits = reverse bits; says = r; found = found; accepted = given.1 }
@@ -180,16 +181,16 @@ module _ (mode : ℕ) (ways : Ways) (bits : List ℕ) where
   -- "Complaints are given only for windows that end in the forward sync word, so a bad reversed word is passed over": exactly for those that are refused,
   -- and by their number. These three leave nothing open: what is none of them is answered with nothing.
   pub complaint_exactly :
-      (n : ℕ) → (heard_in mode ways bits ≡ Refused n) ↔ ((length bits ≡ 80) × (drop 64 bits ≡ sync_word) × (read_of mode bits ≡ Unheld n))
+      (n : Refusal) → (heard_in mode ways bits ≡ Refused n) ↔ ((length bits ≡ 80) × (drop 64 bits ≡ sync_word) × (read_of mode bits ≡ Err n))
   unfolding kind heard_in forward_in
   complaint_exactly n = (λ e. there (window mode bits ways) e, back)
     where
-      there : Window mode bits ways → heard_in mode ways bits ≡ Refused n → (length bits ≡ 80) × (drop 64 bits ≡ sync_word) × (read_of mode bits ≡ Unheld n)
+      there : Window mode bits ways → heard_in mode ways bits ≡ Refused n → (length bits ≡ 80) × (drop 64 bits ≡ sync_word) × (read_of mode bits ≡ Err n)
       there (forward long synced is) e = (long, synced, told_refused (read_of mode bits) n (sym is ∙ e))
       there (backward word turned both is) e = let one : ◌≡◌ {A = ℕ} 1 2 = ap kind (sym is ∙ e) in absurd (omega arith)
       there (neither is) e = let none : ◌≡◌ {A = ℕ} 0 2 = ap kind (sym is ∙ e) in absurd (omega arith)
 
-      back : (length bits ≡ 80) × (drop 64 bits ≡ sync_word) × (read_of mode bits ≡ Unheld n) → heard_in mode ways bits ≡ Refused n
+      back : (length bits ≡ 80) × (drop 64 bits ≡ sync_word) × (read_of mode bits ≡ Err n) → heard_in mode ways bits ≡ Refused n
       back given =
           let synced : same (drop 64 bits) sync_word ≡ true = rw given.1 (same_itself sync_word) in
           rw (eq-eqb (length bits) 80 given.0, synced, given.2)

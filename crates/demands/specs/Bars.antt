@@ -1,34 +1,26 @@
 -- The bars to rehearse: "Marked P: proved of the written definitions, as a single table under a single claim." And a second table, of document 02, A4, and a third, of A6, under the same
 -- claim.
 -- Assumes nothing.
-use Rattle.std.specs.Prelude.{ℕ, zero, suc, ◌≡◌, cond, List, [], ◌∷◌, ◌++◌, map, eqb, ℤ, pos, negsuc, take, drop, replicate}
+use Rattle.clock.specs.declared.types.DayFrame.{DayFrame}
+use Rattle.refusals.specs.declared.types.Refusal.{Refusal}
+use Rattle.pictures.specs.declared.types.PictureInSecond.{PictureInSecond}
+use Rattle.atc.specs.declared.types.Contents.{Contents}
+use Rattle.std.specs.Prelude.{ℕ, zero, suc, ◌≡◌, cond, List, [], ◌∷◌, ◌++◌, map, eqb, ℤ, pos, negsuc, take, drop, replicate, Err, Ok, Result}
 use Rattle.bits.specs.Bits.{value}
 use Rattle.rates.specs.declared.types.Flag.{Flag}
 use Rattle.rates.specs.declared.types.Flag.TheVariants.{No, Yes}
 use Rattle.rates.specs.declared.types.Address.{Address}
-use Rattle.clock.specs.declared.types.Numbered.{Numbered}
-use Rattle.clock.specs.declared.types.Numbered.TheVariants.{Number, Refused as Unnumbered}
-use Rattle.clock.specs.declared.types.Span.{Span}
-use Rattle.clock.specs.declared.types.Span.TheVariants.{Frames, Refused as Unmeasured}
 use Rattle.rates.specs.Face.{showing}
 use Rattle.pictures.specs.declared.types.Picture.{Picture}
-use Rattle.pictures.specs.declared.types.Pictured.{Pictured}
-use Rattle.pictures.specs.declared.types.Pictured.TheVariants.{At, Refused as Unpictured}
-use Rattle.pictures.specs.declared.types.InSecond.{InSecond}
-use Rattle.pictures.specs.declared.types.InSecond.TheVariants.{Number as Counted, Refused as Uncounted}
 use Rattle.pictures.specs.Pictures.{picture}
 use Rattle.record.specs.declared.types.Flags.{Flags}
 use Rattle.record.specs.declared.types.Groups.{Groups}
 use Rattle.record.specs.declared.types.Record.{Record}
-use Rattle.runs.specs.declared.types.Written.{Written}
-use Rattle.runs.specs.declared.types.Written.TheVariants.{Done, Refused as Unwritten}
 use Rattle.modes.specs.Calls.{number_in, in_second_in, picture_in, fields_in, span_in, plus_in}
 use Rattle.polarity.specs.declared.types.Found.TheVariants.{Corrected}
 use Rattle.ltc.specs.Calls as ltc
 use Rattle.vitc.specs.Calls as vitc
 use Rattle.atc.specs.declared.types.Interface.TheVariants.{HighDefinition}
-use Rattle.atc.specs.declared.types.Packet.{Packet}
-use Rattle.atc.specs.declared.types.Packet.TheVariants.{Holds as Carries, Refused as Turned}
 use Rattle.atc.specs.Calls as atc
 
 -- what a call tells, whichever it is: a number, a picture, a signed count, the elements that a write leaves, or a refusal
@@ -39,21 +31,21 @@ pub data Told : Type 0 where
   elements : List ℕ → Told
   refused_by : ℕ → Told
 
-abbrev of_numbered : Numbered → Told
-of_numbered (Number n) = number n.0
-of_numbered (Unnumbered n) = refused_by n
+abbrev of_numbered : Result DayFrame Refusal → Told
+of_numbered (Ok n) = number n.0
+of_numbered (Err n) = refused_by n
 
-abbrev of_in_second : InSecond → Told
-of_in_second (Counted n) = number n.0
-of_in_second (Uncounted n) = refused_by n
+abbrev of_in_second : Result PictureInSecond Refusal → Told
+of_in_second (Ok n) = number n.0
+of_in_second (Err n) = refused_by n
 
-abbrev of_pictured : Pictured → Told
-of_pictured (At p) = shows p
-of_pictured (Unpictured n) = refused_by n
+abbrev of_pictured : Result Picture Refusal → Told
+of_pictured (Ok p) = shows p
+of_pictured (Err n) = refused_by n
 
-abbrev of_span : Span → Told
-of_span (Frames z) = frames z
-of_span (Unmeasured n) = refused_by n
+abbrev of_span : Result ℤ Refusal → Told
+of_span (Ok z) = frames z
+of_span (Err n) = refused_by n
 
 -- a bar: what the call tells, and what the document says it must be
 pub record Bar : Type 0 where
@@ -214,9 +206,9 @@ pair_bars =
 -- begins above 10 elsewhere", and what goes with it: the last picture of a day in a mode and the first number that is refused; the highest number within a second; the step over
 -- the skipped numbers of 120 drop; distances and sums that count pictures; types and second bytes that are not the mode's; a mark that is set; packets of each mode, with groups, read
 -- and written; two of modes 0 to 5, with flags, groups and a second byte, beside them; and packets whose checksum or low bits are wrong, where the type is as well
-abbrev of_written : Written → List ℕ → Told
-of_written Done left = elements left
-of_written (Unwritten n) left = refused_by n
+abbrev of_written : Result Unit Refusal → List ℕ → Told
+of_written (Ok tt) left = elements left
+of_written (Err n) left = refused_by n
 
 -- a record of a picture, its flags drop, colour, mark, BGF0, BGF1 and BGF2, and its groups
 abbrev flags_of : Flag → Flag → Flag → Flag → Flag → Flag → Flags
@@ -255,9 +247,9 @@ abbrev on : ℕ → Flag → Picture → ℤ → Told
 on mode drop p z = of_pictured (plus_in mode drop p z)
 
 -- what a read of a packet tells: its picture
-abbrev of_read : Packet → Told
-of_read (Carries c) = shows (picture c.«record».address c.«record».place)
-of_read (Turned n) = refused_by n
+abbrev of_read : Result Contents Refusal → Told
+of_read (Ok c) = shows (picture c.«record».address c.«record».place)
+of_read (Err n) = refused_by n
 
 abbrev read_as : ℕ → List ℕ → Told
 read_as mode words = of_read (atc.read_of mode HighDefinition words)

@@ -1,25 +1,21 @@
 -- Demand 2 of what carries a record, "read or written": what is written, what is read, and that the two match one to one. What the elements mean is in
 -- the definitions of the carriers, to be held beside the standard. And demand 1 of a write "that is turned away".
 -- Assumes nothing.
-use Rattle.std.specs.Prelude.{ℕ, ◌+◌, ◌<◌, ◌≤◌, ◌≡◌, true, cond, List, ◌↔◌, ◌⊎◌, length}
-use Rattle.runs.specs.declared.types.Written.TheVariants.{Done, Refused}
+use Rattle.std.specs.Prelude.{ℕ, ◌+◌, ◌<◌, ◌≤◌, ◌≡◌, true, cond, List, ◌↔◌, ◌⊎◌, length, Err, Ok}
 use Rattle.runs.specs.Run.{placed}
 use Rattle.rates.specs.declared.types.Flag.{Flag}
 use Rattle.rates.specs.declared.types.Flag.TheVariants.{No, Yes}
 use Rattle.record.specs.declared.types.Record.{Record}
-use Rattle.record.specs.declared.types.Unpacked.TheVariants.{Holds}
 use Rattle.record.specs.Record.{marked}
 use Rattle.modes.specs.Calls.{information_in}
 use Rattle.polarity.specs.declared.types.Found.{Found}
 use Rattle.polarity.specs.declared.types.Found.TheVariants.{Corrected, Uncorrected}
-use Rattle.polarity.specs.declared.types.Word.TheVariants.{Holds as Read}
 use Rattle.polarity.specs.Word.{word_with, odd_zeros}
 use Rattle.ltc.specs.Calls as ltc
 use Rattle.vitc.specs.Calls as vitc
 use Rattle.atc.specs.declared.types.Interface.{Interface}
 use Rattle.atc.specs.declared.types.Contents.{Contents}
 use Rattle.atc.specs.Calls as atc
-use Rattle.atc.specs.declared.types.Packet.TheVariants.{Holds as Carries}
 use Rattle.demands.specs.Records.{Acceptable, OnLines, FirstPicture, MarkSays, PacketShows}
 use Rattle.demands.specs.Table4.{ClaimsImpossibleLine}
 use Rattle.demands.specs.Families.{PayloadType, NamesMode}
@@ -42,10 +38,10 @@ linear make =
       size = 80;
       Given = λ r. Unit {0};
       Accepts = λ mode r. OnLines mode r × (r.flags.mark ≡ No) × FirstPicture r;
-      Writes = λ mode r start run. ltc.written_of mode r start run ≡ Done;
-      Refuses = λ mode r start run number. ltc.written_of mode r start run ≡ Refused number;
+      Writes = λ mode r start run. ltc.written_of mode r start run ≡ Ok tt;
+      Refuses = λ mode r start run number. ltc.written_of mode r start run ≡ Err number;
       leaves = λ mode r. ltc.run_of mode r make;
-      Reads = λ mode word r. ltc.read_of mode word ≡ Read r make;
+      Reads = λ mode word r. ltc.read_of mode word ≡ Ok (reading r make);
     }
 
 -- the linear word of a record with the polarity bit so
@@ -70,10 +66,10 @@ interval =
       size = 90;
       Given = λ r. Unit {0};
       Accepts = λ mode r. OnLines mode r × MarkSays mode r;
-      Writes = λ mode r start run. vitc.written_of mode r start run ≡ Done;
-      Refuses = λ mode r start run number. vitc.written_of mode r start run ≡ Refused number;
+      Writes = λ mode r start run. vitc.written_of mode r start run ≡ Ok tt;
+      Refuses = λ mode r start run number. vitc.written_of mode r start run ≡ Err number;
       leaves = vitc.run_of;
-      Reads = λ mode line r. vitc.read_of mode line ≡ Holds r;
+      Reads = λ mode line r. vitc.read_of mode line ≡ Ok r;
     }
 
 -- 23 words of an ancillary packet on an interface: `atc::write` and `atc::read`. The payload type is one of the mode's family, the second byte is a byte, and it
@@ -87,10 +83,10 @@ ancillary interface =
           λ mode c. Acceptable mode c.«record» × PayloadType mode c.payload_type × (c.second < 256)
           × (ClaimsImpossibleLine interface c.payload_type c.second → ⊥) × PacketShows mode c.payload_type c.«record»
           × NamesMode mode c.second;
-      Writes = λ mode c start run. (c.second < 256) × (atc.written_of mode interface c.«record» c.payload_type c.second start run ≡ Done);
-      Refuses = λ mode c start run number. atc.written_of mode interface c.«record» c.payload_type c.second start run ≡ Refused number;
+      Writes = λ mode c start run. (c.second < 256) × (atc.written_of mode interface c.«record» c.payload_type c.second start run ≡ Ok tt);
+      Refuses = λ mode c start run number. atc.written_of mode interface c.«record» c.payload_type c.second start run ≡ Err number;
       leaves = λ mode c. atc.run_of mode interface c.«record» c.payload_type c.second;
-      Reads = λ mode words c. atc.read_of mode interface words ≡ Carries c;
+      Reads = λ mode words c. atc.read_of mode interface words ≡ Ok c;
     }
 
 -- the same carrier, which accepts and writes some contents only; what is read stays, so that its laws say that nothing else is read

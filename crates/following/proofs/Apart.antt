@@ -7,7 +7,7 @@ use mathlib.Core.Bool.{false}
 use mathlib.Core.List.{List, [], ◌∷◌, ◌++◌, map}
 use native.Mathlib.Omega.{arith}
 use lib.ListN.{get_or, get_or-append}
-use Rattle.refusals.specs.Table.{outside_the_clock}
+use Rattle.refusals.specs.declared.types.Refusal.TheVariants.{OutsideTheClock}
 use Rattle.refusals.proofs.ByNumber.{clear_from}
 use Rattle.bits.specs.Bits.{to_bits, some_above}
 use Rattle.bits.proofs.Bit.{head_within, tail_within, length_to_bits}
@@ -16,7 +16,6 @@ use Rattle.record.specs.declared.types.Record.{Record}
 use Rattle.following.proofs.Digits.{digits, small_digits}
 use Rattle.modes.specs.Modes.{rate_at}
 use Rattle.polarity.specs.declared.types.Found.{Found}
-use Rattle.polarity.specs.declared.types.Word.TheVariants.{Holds}
 use Rattle.polarity.specs.Word.{sync_word, word_with, info_in}
 use Rattle.ltc.specs.Calls.{read_refusals, read_of}
 use Rattle.trips.proofs.Words.{read_clear, whole}
@@ -51,9 +50,9 @@ module _ (info : ℕ) where
   unfolding to_bits sync_word
   in_sync = (λ one other. omega arith, (λ one other. omega arith, tt))
 
-pub apart : (mode : ℕ) (r : Record) (found : Found) (word : List ℕ) → read_of mode word ≡ Holds r found → Each (NotBoth word) gaps
+pub apart : (mode : ℕ) (r : Record) (found : Found) (word : List ℕ) → read_of mode word ≡ Ok (reading r found) → Each (NotBoth word) gaps
 unfolding some_above
 apart mode r found word e =
     let clear = (read_clear mode r found word e).0 in
-    let small = small_digits (rate_at mode) (info_in word) (clear_from outside_the_clock (read_refusals mode word) clear) in
+    let small = small_digits (rate_at mode) (info_in word) (clear_from OutsideTheClock (read_refusals mode word) clear) in
     rw (whole mode word clear) (in_digits (info_in word) digits small refl (65 ∷ 77 ∷ []) (in_sync (info_in word)))

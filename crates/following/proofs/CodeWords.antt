@@ -5,7 +5,7 @@ use mathlib.Core.Path.{◌≡◌, refl}
 use mathlib.Core.List.{List, [], ◌∷◌}
 use lib.ListN.{length, drop, length-reverse}
 use borrow.Author.Tests.{not-false}
-use Rattle.refusals.specs.Table.{element_too_high, wrong_sync}
+use Rattle.refusals.specs.declared.types.Refusal.TheVariants.{ElementTooHigh, WrongSync}
 use Rattle.refusals.proofs.Answered.{Clear}
 use Rattle.refusals.proofs.ByNumber.{clear_at}
 use Rattle.bits.specs.Bits.{some_above, AllBits}
@@ -30,10 +30,10 @@ module _ {mode : ℕ} where
     word_long = long mode word.bits clear
 
     word_clean : AllBits word.bits
-    word_clean = clear_at element_too_high (read_refusals mode word.bits) clear
+    word_clean = clear_at ElementTooHigh (read_refusals mode word.bits) clear
 
     pub word_synced : drop 64 word.bits ≡ sync_word
-    word_synced = same_elements (drop 64 word.bits) sync_word (not-false _ (clear_at wrong_sync (read_refusals mode word.bits) clear))
+    word_synced = same_elements (drop 64 word.bits) sync_word (not-false _ (clear_at WrongSync (read_refusals mode word.bits) clear))
 
     pub gaps_of : Each (NotBoth word.bits) gaps
     gaps_of = apart mode word.says word.found word.bits word.accepted

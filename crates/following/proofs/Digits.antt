@@ -9,7 +9,7 @@ use native.Mathlib.Omega.{arith}
 use lib.Dec.{ltb}
 use lib.ListN.{drop}
 use borrow.Author.Tests.{ltb-false}
-use Rattle.refusals.specs.Table.{outside_the_clock}
+use Rattle.refusals.specs.declared.types.Refusal.TheVariants.{OutsideTheClock}
 use Rattle.refusals.proofs.Answered.{Clear, neither}
 use Rattle.refusals.proofs.ByNumber.{clear_at}
 use Rattle.bits.proofs.Neighbours.{Each, Digit, Small}
@@ -38,7 +38,7 @@ tens most ones n h = omega arith
 pub small_digits : (rate : Rate) (info : ℕ) → Clear (bits_refusals rate info) → Each (Small info) digits
 unfolding record_of
 small_digits rate info clear =
-    let eight = neither (digit_above_9 info) (outside (frames_in_second rate) (address_held info)) (clear_at outside_the_clock (bits_refusals rate info) clear) in
+    let eight = neither (digit_above_9 info) (outside (frames_in_second rate) (address_held info)) (clear_at OutsideTheClock (bits_refusals rate info) clear) in
     let within = inside (frames_in_second rate) (address_held info) eight.1 in
     let f = neither (ltb 9 (bits 0 3 info)) _ eight.0 in
     let s = neither (ltb 9 (bits 16 19 info)) _ f.1 in

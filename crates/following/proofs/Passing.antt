@@ -7,7 +7,8 @@ use mathlib.Core.List.{List, [], ◌∷◌}
 use mathlib.Core.Logic.{⊎_elim}
 use lib.Dec.{ltb}
 use borrow.Author.Tests.{ltb-false}
-use Rattle.refusals.specs.Table.{element_too_high}
+use Rattle.refusals.specs.declared.types.Refusal.{Refusal}
+use Rattle.refusals.specs.declared.types.Refusal.TheVariants.{ElementTooHigh}
 use Rattle.refusals.specs.Answer.{test_of}
 use Rattle.refusals.proofs.Answered.{kept, carried, otherwise_accepted, clear_or_refused}
 use Rattle.refusals.proofs.ByNumber.{not_clear}
@@ -31,12 +32,12 @@ unfolding stepped_of
 not_taken r element n refused =
     let rows = feed_refusals r element in
     let some = not_clear n rows refused in
-    let back = carried (λ (s : Stepped). s.reader) (λ (k : ℕ). after r (Refused k)) (bit_taken r element) rows in
+    let back = carried (λ (s : Stepped). s.reader) (λ (k : Refusal). after r (Refused k)) (bit_taken r element) rows in
     (back ∙ kept r (bit_taken r element).reader rows some, kept false true rows some)
 
 -- by 3, an element above 1
 pub high_not_taken : (r : Reader) (element : ℕ) → ltb 1 element ≡ true → (stepped_of r element).reader ≡ r
-high_not_taken r element high = (not_taken r element element_too_high high).0
+high_not_taken r element high = (not_taken r element ElementTooHigh high).0
 
 -- a bit is pushed onto the list
 pub passing_takes : (r : Reader) (element : ℕ) → Passing r → ltb 1 element ≡ false → stepped_of r element ≡ bit_taken r element
@@ -66,9 +67,9 @@ unfolding stepped_of reader_with
 step_keeps r element =
     let rows = feed_refusals r element in
     ⊎_elim
-    (λ clear. rw (otherwise_accepted (λ (n : ℕ). after r (Refused n)) (bit_taken r element) rows clear) (refl, refl))
+    (λ clear. rw (otherwise_accepted (λ (n : Refusal). after r (Refused n)) (bit_taken r element) rows clear) (refl, refl))
     (λ given. rw given.1 (refl, refl))
-    (clear_or_refused (λ (n : ℕ). after r (Refused n)) (bit_taken r element) rows)
+    (clear_or_refused (λ (n : Refusal). after r (Refused n)) (bit_taken r element) rows)
 
 pub fed_passing : (elements : List ℕ) (r : Reader) → Passing r → Passing (fed r elements)
 unfolding fed

@@ -9,9 +9,10 @@ use native.Mathlib.Omega.{arith}
 use lib.Dec.{ltb, eqb}
 use lib.ListN.{length, drop, length-reverse, length-drop}
 use borrow.Author.Tests.{ltb-true, ltb-false}
-use Rattle.runs.proofs.Same.{not_same}
 use Rattle.polarity.specs.declared.types.Word.{Word}
-use Rattle.polarity.specs.declared.types.Word.TheVariants.{Holds, Refused as Unheld}
+use Rattle.refusals.specs.declared.types.Refusal.{Refusal}
+use Rattle.std.specs.Prelude.{Err, Result}
+use Rattle.runs.proofs.Same.{not_same}
 use Rattle.polarity.specs.Word.{sync_word}
 use Rattle.ltc.specs.Calls.{read_of}
 use Rattle.register.specs.declared.types.Ways.{Ways}
@@ -44,9 +45,9 @@ module _ (mode : ℕ) (window : List ℕ) where
   backward_silent ForwardOnly none = refl
   backward_silent Both none = go (read_of mode (reverse window)) refl
     where
-      go : (word : Word) → read_of mode (reverse window) ≡ word → told_backward Both word ≡ Nothing
-      go (Holds r found) e = absurd (none record { bits = reverse window; says = r; found = found; accepted = e } refl)
-      go (Unheld n) e = refl
+      go : (word : Result Word Refusal) → read_of mode (reverse window) ≡ word → told_backward Both word ≡ Nothing
+      go (Ok (reading r found)) e = absurd (none record { bits = reverse window; says = r; found = found; accepted = e } refl)
+      go (Err n) e = refl
 
   silent : (ways : Ways) → (drop 64 window ≡ sync_word → ⊥) → Unturned mode ways window → heard_in mode ways window ≡ Nothing
   unfolding heard_in

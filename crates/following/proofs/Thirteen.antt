@@ -8,15 +8,16 @@ use mathlib.Core.Logic.{◌↔◌}
 use native.Mathlib.Omega.{arith}
 use lib.Dec.{ltb, eqb}
 use lib.ListN.{length, drop}
-use Rattle.refusals.specs.Table.{state_not_reached}
+use Rattle.polarity.specs.declared.types.Word.{Word}
+use Rattle.refusals.specs.declared.types.Refusal.{Refusal}
+use Rattle.std.specs.Prelude.{Err, Result}
+use Rattle.refusals.specs.declared.types.Refusal.TheVariants.{StateNotReached}
 use Rattle.refusals.proofs.Answered.{carried, given_below}
 use Rattle.runs.specs.Run.{same}
 use Rattle.rates.specs.declared.types.Flag.TheVariants.{No}
 use Rattle.record.specs.Record.{marked}
 use Rattle.modes.specs.Modes.{unknown}
 use Rattle.modes.specs.Calls.{record_in}
-use Rattle.polarity.specs.declared.types.Word.{Word}
-use Rattle.polarity.specs.declared.types.Word.TheVariants.{Holds as Read, Refused as Unheld}
 use Rattle.polarity.specs.Word.{sync_word, info_in, found_in}
 use Rattle.ltc.specs.Calls.{read_refusals, read_of}
 use Rattle.register.specs.declared.types.Reader.{Reader}
@@ -43,7 +44,7 @@ number (Refused n) = n
 word_below : (mode : ℕ) (bits : List ℕ) → number (told (read_of mode bits)) < 13
 unfolding read_of
 word_below mode bits =
-    rw (carried (λ (w : Word). number (told w)) Unheld (Read (marked No (record_in mode (info_in bits))) (found_in bits)) (read_refusals mode bits))
+    rw (carried (λ (w : Result Word Refusal). number (told w)) Err (Ok (reading (marked No (record_in mode (info_in bits))) (found_in bits))) (read_refusals mode bits))
     (given_below 13 (omega arith) (read_refusals mode bits) (omega arith))
 
 forward_below : (mode : ℕ) (bits : List ℕ) → number (forward_in mode bits) < 13
@@ -55,10 +56,10 @@ forward_below mode bits = go (eqb (length bits) 80 && same (drop 64 bits) sync_w
     go false = omega arith
 
 -- and nothing that is heard backward is refused
-backward_below : (ways : Ways) (word : Word) → number (told_backward ways word) < 13
+backward_below : (ways : Ways) (word : Result Word Refusal) → number (told_backward ways word) < 13
 backward_below ForwardOnly word = omega arith
-backward_below Both (Read r found) = omega arith
-backward_below Both (Unheld n) = omega arith
+backward_below Both (Ok (reading r found)) = omega arith
+backward_below Both (Err n) = omega arith
 
 either_below : (forward backward : Heard) → number forward < 13 → number backward < 13 → number (or_else forward backward) < 13
 either_below Nothing backward f b = b
@@ -97,22 +98,22 @@ block_below (element ∷ elements) r limit p =
 module _ (r : Reader) (known : unknown r.mode ≡ false) (low : r.info < 2 ^ 64) (high : r.sync < 2 ^ 16) where
   -- an answer that is 13 where the check fails and below 13 where it passes
   exactly :
-      (heard : Heard) → (unreached r ≡ true → heard ≡ Refused state_not_reached) → (Passing r → number heard < 13)
-      → (heard ≡ Refused state_not_reached) ↔ (Reached r → ⊥)
+      (heard : Heard) → (unreached r ≡ true → heard ≡ Refused StateNotReached) → (Passing r → number heard < 13)
+      → (heard ≡ Refused StateNotReached) ↔ (Reached r → ⊥)
   exactly heard fails sound = (there, back (unreached r) refl)
     where
-      there : heard ≡ Refused state_not_reached → Reached r → ⊥
+      there : heard ≡ Refused StateNotReached → Reached r → ⊥
       there e reached = let below = sound (reached_passing r known reached) in let is : number heard ≡ 13 = ap number e in omega arith
 
-      back : (t : Bool) → unreached r ≡ t → (Reached r → ⊥) → heard ≡ Refused state_not_reached
+      back : (t : Bool) → unreached r ≡ t → (Reached r → ⊥) → heard ≡ Refused StateNotReached
       back true t none = fails t
       back false t none = absurd (none ((reached_exactly r known low high).0 t))
 
-  pub step_thirteen : (element : ℕ) → ((stepped_of r element).heard ≡ Refused state_not_reached) ↔ (Reached r → ⊥)
+  pub step_thirteen : (element : ℕ) → ((stepped_of r element).heard ≡ Refused StateNotReached) ↔ (Reached r → ⊥)
   unfolding stepped_of
   step_thirteen element = exactly (stepped_of r element).heard (λ e. rw (known, e)) (step_below r element)
 
-  pub block_thirteen : (limit : ℕ) (run : List ℕ) → ((blocked_of r limit run).heard ≡ Refused state_not_reached) ↔ (Reached r → ⊥)
+  pub block_thirteen : (limit : ℕ) (run : List ℕ) → ((blocked_of r limit run).heard ≡ Refused StateNotReached) ↔ (Reached r → ⊥)
   unfolding blocked_of
   block_thirteen limit run =
       exactly (blocked_of r limit run).heard (λ e. rw (known, e)) (λ p. rw (passing_goes r limit run p) (block_below run r limit p))

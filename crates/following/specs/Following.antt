@@ -8,7 +8,6 @@ use Rattle.std.specs.Prelude.{ℕ, ◌≤◌, ◌≡◌, false, List, [], ◌∷
 use Rattle.record.specs.declared.types.Record.{Record}
 use Rattle.modes.specs.Modes.{unknown}
 use Rattle.polarity.specs.declared.types.Found.{Found}
-use Rattle.polarity.specs.declared.types.Word.TheVariants.{Holds}
 use Rattle.ltc.specs.Calls.{read_of}
 use Rattle.register.specs.declared.types.Reader.{Reader}
 use Rattle.register.specs.declared.types.Ways.{Ways}
@@ -26,7 +25,7 @@ pub record CodeWord (mode : ℕ) : Type 0 where
   pub bits : List ℕ
   pub says : Record
   pub found : Found
-  pub accepted : read_of mode bits ≡ Holds says found
+  pub accepted : read_of mode bits ≡ Ok (reading says found)
 
 module _ {mode : ℕ} (way : Way) where
   -- "feed it, unchanged and end to end, code words", "all one way"

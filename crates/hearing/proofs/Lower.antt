@@ -9,7 +9,7 @@ use lib.Dec.{ltb, eqb}
 use lib.ListN.{length, take, drop, length-reverse, length-drop, take-append-drop}
 use lib.Seq.{take_at, drop_at}
 use borrow.Author.Tests.{eqb-true, eqb-false, ltb-true, ltb-false}
-use Rattle.refusals.specs.Table.{wrong_length, wrong_sync}
+use Rattle.refusals.specs.declared.types.Refusal.TheVariants.{WrongLength, WrongSync}
 use Rattle.bits.specs.Bits.{value, to_bits, AllBits}
 use Rattle.bits.proofs.Bit.{length_to_bits, bits_of_number, within_reverse}
 use Rattle.bits.proofs.Inverse.{value_to_bits, to_bits_value, value_below}
@@ -48,7 +48,7 @@ module _ (r : Reader) where
     pub short_is_passed_over : r.held < 80 → backward_in r.mode ways (held_bits r) ≡ Nothing
     unfolding backward_in
     short_is_passed_over h =
-        passed_over ways r.mode wrong_length (reverse (held_bits r)) (rw (length-reverse (held_bits r)) (ap not (short r h)))
+        passed_over ways r.mode WrongLength (reverse (held_bits r)) (rw (length-reverse (held_bits r)) (ap not (short r h)))
 
     -- 80 bits that do not begin with the sync word turned round: nothing
     pub other_is_passed_over : same (take 16 (register r)) (reverse sync_word) ≡ false → backward_in r.mode ways (held_bits r) ≡ Nothing
@@ -64,7 +64,7 @@ module _ (r : Reader) where
             λ s. ap (λ (l : List ℕ). same l (reverse sync_word)) (sym back ∙ ap reverse (sym ends ∙ s)) ∙ same_itself (reverse sync_word) in
             let unlike : same (drop 64 (reverse (held_bits r))) sync_word ≡ false =
             not_same (drop 64 (reverse (held_bits r))) sync_word (λ s. true≢false (sym (alike s) ∙ other)) in
-            passed_over ways r.mode wrong_sync (reverse (held_bits r)) (rw unlike)
+            passed_over ways r.mode WrongSync (reverse (held_bits r)) (rw unlike)
 
 -- the oldest 16, and the 64 after them
 module _ (r : Reader) (low : r.info < 2 ^ 64) (high : r.sync < 2 ^ 16) where

@@ -4,13 +4,13 @@ use Prim.Native.Nat.{ℕ}
 use mathlib.Core.Path.{◌≡◌, refl, ◌∙◌}
 use mathlib.Core.Bool.{true}
 use mathlib.Core.List.{List}
+use Rattle.std.specs.Prelude.{Err}
 use Rattle.refusals.specs.Answer.{test_of}
 use Rattle.refusals.proofs.Answered.{kept, carried}
 use Rattle.refusals.proofs.ByNumber.{not_clear}
 use Rattle.rates.specs.declared.types.Flag.TheVariants.{No}
 use Rattle.record.specs.Record.{marked}
 use Rattle.modes.specs.Calls.{record_in}
-use Rattle.polarity.specs.declared.types.Word.TheVariants.{Holds, Refused as Unheld}
 use Rattle.polarity.specs.Word.{info_in, found_in}
 use Rattle.ltc.specs.Calls.{read_refusals, read_of}
 use Rattle.register.specs.declared.types.Ways.{Ways}
@@ -24,5 +24,5 @@ unfolding read_of
 passed_over ForwardOnly mode n word refused = refl
 passed_over Both mode n word refused =
     let rows = read_refusals mode word in
-    let held = Holds (marked No (record_in mode (info_in word))) (found_in word) in
-    carried (told_backward Both) Unheld held rows ∙ kept Nothing (told_backward Both held) rows (not_clear n rows refused)
+    let held = Ok (reading (marked No (record_in mode (info_in word))) (found_in word)) in
+    carried (told_backward Both) Err held rows ∙ kept Nothing (told_backward Both held) rows (not_clear n rows refused)

@@ -2,12 +2,12 @@
 -- applies to those 80 bits." A3: "With reverse allowed, a window of 80 bits that reads backwards as an accepted word is reported as such, with its
 -- direction .. Complaints are given only for windows that end in the forward sync word, so a bad reversed word is passed over."
 -- Assumes nothing.
-use Rattle.std.specs.Prelude.{ℕ, ◌&&◌, cond, List, reverse, eqb, length, drop}
+use Rattle.polarity.specs.declared.types.Word.{Word}
+use Rattle.refusals.specs.declared.types.Refusal.{Refusal}
+use Rattle.std.specs.Prelude.{ℕ, ◌&&◌, cond, List, reverse, eqb, length, drop, Err, Result}
 use Rattle.runs.specs.Run.{same}
 use Rattle.record.specs.declared.types.Record.{Record}
 use Rattle.polarity.specs.declared.types.Found.{Found}
-use Rattle.polarity.specs.declared.types.Word.{Word}
-use Rattle.polarity.specs.declared.types.Word.TheVariants.{Holds, Refused as Unheld}
 use Rattle.polarity.specs.Word.{sync_word}
 use Rattle.ltc.specs.Calls.{read_of}
 use Rattle.register.specs.declared.types.Ways.{Ways}
@@ -23,19 +23,19 @@ abbrev pub reporting : Record → Found → Way → Report
 reporting r found way = record { «record» = r; found = found; way = way }
 
 -- "The answer holds the whole record inside the accepted case", and beside it what was found and the way
-abbrev pub told : Word → Heard
-told (Holds r found) = Accepted (reporting r found Forward)
-told (Unheld n) = Refused n
+abbrev pub told : Result Word Refusal → Heard
+told (Ok (reading r found)) = Accepted (reporting r found Forward)
+told (Err n) = Refused n
 
 -- what is heard forward in the bits that are held
 unfoldable pub forward_in : ℕ → List ℕ → Heard
 forward_in mode bits = cond (eqb (length bits) 80 && same (drop 64 bits) sync_word) (told (read_of mode bits)) Nothing
 
 -- "With reverse allowed", and else nothing; and what is not accepted "is passed over"
-abbrev pub told_backward : Ways → Word → Heard
+abbrev pub told_backward : Ways → Result Word Refusal → Heard
 told_backward ForwardOnly word = Nothing
-told_backward Both (Holds r found) = Accepted (reporting r found Backward)
-told_backward Both (Unheld n) = Nothing
+told_backward Both (Ok (reading r found)) = Accepted (reporting r found Backward)
+told_backward Both (Err n) = Nothing
 
 -- what is heard backward: the bits that are held, turned round. Fewer than 80 are no word
 unfoldable pub backward_in : ℕ → Ways → List ℕ → Heard

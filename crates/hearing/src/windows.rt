@@ -49,8 +49,8 @@ fn heard_turned(reader: Reader) -> Heard
     let info = turned(reader.info / 0x1_0000 + 0x1_0000_0000_0000 * newest);
     let word = polarity::read_info(reader.mode, info);
     match word {
-        Word::Holds(record, found) => reported(record, found, Way::Backward),
-        Word::Refused(_) => Heard::Nothing,
+        Ok(record, found) => reported(record, found, Way::Backward),
+        Err(_) => Heard::Nothing,
     }
 }
 
@@ -76,7 +76,7 @@ pub fn heard(reader: Reader) -> Heard
     }
     let word = polarity::read_info(reader.mode, reader.info);
     match word {
-        Word::Holds(record, found) => reported(record, found, Way::Forward),
-        Word::Refused(number) => Heard::Refused(number),
+        Ok(record, found) => reported(record, found, Way::Forward),
+        Err(number) => Heard::Refused(number),
     }
 }

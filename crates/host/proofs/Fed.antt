@@ -5,7 +5,8 @@ use Prim.Native.Nat.{ℕ}
 use mathlib.Core.Path.{◌≡◌, ap, ◌∙◌}
 use mathlib.Core.Bool.{Bool, true, false}
 use mathlib.Core.List.{List, ◌++◌}
-use Rattle.refusals.specs.Answer.{Refusal, answer}
+use Rattle.refusals.specs.declared.types.Refusal.{Refusal}
+use Rattle.refusals.specs.Answer.{Cause, answer}
 use Rattle.refusals.proofs.Answered.{carried}
 use Rattle.register.specs.declared.types.Reader.{Reader}
 use Rattle.hearing.specs.declared.types.Heard.TheVariants.{Refused as Unheard}
@@ -23,7 +24,7 @@ use Rattle.host.proofs.Firsts.{unnamed, named}
 -- S is what a reader answers, A what a host is answered: `shown` makes the one of the other, `back` puts a reader beside what was heard, `refusing` is the reader's own refusal
 module _
     {S A : Type 0} (shown : S → A) (back : PlainHeard → PlainReader → A) (refusing : Reader → ℕ → S) (r : PlainReader)
-    (as_shown : (n : ℕ) → shown (refusing (reader_given r) n) ≡ back (heard_shown (Unheard n)) (reader_shown (reader_given r))) where
+    (as_shown : (n : Refusal) → shown (refusing (reader_given r) n) ≡ back (heard_shown (Unheard n)) (reader_shown (reader_given r))) where
   -- a refusal, the reader as it was
   abbrev unheard : ℕ → A
   unheard n = back (heard_shown (Unheard n)) r
@@ -37,7 +38,7 @@ module _
 
   -- the reader's own list, of what a host is answered
   pub its_own :
-      no_ways r.ways ≡ false → (rows : List Refusal) (accepted : S)
+      no_ways r.ways ≡ false → (rows : List Cause) (accepted : S)
       → shown (answer (refusing (reader_given r)) rows accepted) ≡ answer unheard rows (shown accepted)
   its_own within rows accepted =
       let same : (n : ℕ) → shown (refusing (reader_given r) n) ≡ unheard n =
@@ -45,7 +46,7 @@ module _
       carried shown (refusing (reader_given r)) accepted rows ∙ ap (λ (f : ℕ → A). answer f rows (shown accepted)) (λ i n. same n i)
 
   pub answered :
-      (none : Bool) → none ≡ no_ways r.ways → none ≡ false → (rest rows : List Refusal) → rows ≡ reader_refusals (reader_given r) ++ rest → (accepted : S) (a : A)
+      (none : Bool) → none ≡ no_ways r.ways → none ≡ false → (rest rows : List Cause) → rows ≡ reader_refusals (reader_given r) ++ rest → (accepted : S) (a : A)
       → a ≡ shown (answer (refusing (reader_given r)) rows accepted)
       → a ≡ answer unheard (reader_rows r) (shown (answer (refusing (reader_given r)) rows accepted))
   answered none asked e rest rows begins accepted a told =

@@ -7,21 +7,21 @@ use mathlib.Core.List.{List, [], ◌∷◌, ◌++◌}
 use lib.Dec.{eqb}
 use lib.ListN.{take}
 use borrow.Author.Tests.{eqb-true}
-use Rattle.refusals.specs.Table.{element_too_high}
-use Rattle.refusals.specs.Answer.{Refusal, ◌when◌, answer}
+use Rattle.refusals.specs.declared.types.Refusal.TheVariants.{ElementTooHigh}
+use Rattle.refusals.specs.Answer.{Cause, ◌when◌, answer}
 use Rattle.refusals.proofs.Answered.{carried}
 use Rattle.host.specs.Unnamed.{then_unnamed}
 
 module _ {A : Type 0} (refused : ℕ → A) where
   -- a list in two parts: the first part answers, or else the second
   pub in_two :
-      (front back : List Refusal) (accepted : A)
+      (front back : List Cause) (accepted : A)
       → answer refused (front ++ back) accepted ≡ answer refused front (answer refused back accepted)
   in_two [] back accepted = refl
   in_two (row ∷ front) back accepted = ap (cond row.applies (refused row.number)) (in_two front back accepted)
 
   -- the same rows asked twice
-  twice : (rows : List Refusal) (accepted : A) → answer refused rows (answer refused rows accepted) ≡ answer refused rows accepted
+  twice : (rows : List Cause) (accepted : A) → answer refused rows (answer refused rows accepted) ≡ answer refused rows accepted
   twice [] accepted = refl
   twice (row ∷ rows) accepted = go row.applies (twice rows accepted)
     where
@@ -33,20 +33,20 @@ module _ {A : Type 0} (refused : ℕ → A) where
       go false rest = rest
 
   pub unnamed :
-      (before : List Refusal) (none : Bool) (answered : A) (k : ℕ) → none ≡ true → k ≡ answer (λ (n : ℕ). n) before element_too_high
+      (before : List Cause) (none : Bool) (answered : A) (k : ℕ) → none ≡ true → k ≡ answer (λ (n : ℕ). n) before ElementTooHigh
       → refused k ≡ answer refused (then_unnamed before none) answered
   unnamed before none answered k e is =
       rw e
       (ap refused is
-      ∙ (carried refused (λ (n : ℕ). n) element_too_high before
-      ∙ sym (in_two before ((element_too_high when true) ∷ []) answered)))
+      ∙ (carried refused (λ (n : ℕ). n) ElementTooHigh before
+      ∙ sym (in_two before ((ElementTooHigh when true) ∷ []) answered)))
 
   -- then what the call would have answered is not asked
-  pub unasked : (before : List Refusal) (x y : A) → answer refused (then_unnamed before true) x ≡ answer refused (then_unnamed before true) y
-  unasked before x y = in_two before ((element_too_high when true) ∷ []) x ∙ sym (in_two before ((element_too_high when true) ∷ []) y)
+  pub unasked : (before : List Cause) (x y : A) → answer refused (then_unnamed before true) x ≡ answer refused (then_unnamed before true) y
+  unasked before x y = in_two before ((ElementTooHigh when true) ∷ []) x ∙ sym (in_two before ((ElementTooHigh when true) ∷ []) y)
 
   pub named :
-      (before rest rows : List Refusal) → rows ≡ before ++ rest → (none : Bool) (accepted answered : A) → none ≡ false
+      (before rest rows : List Cause) → rows ≡ before ++ rest → (none : Bool) (accepted answered : A) → none ≡ false
       → answered ≡ answer refused rows accepted → answered ≡ answer refused (then_unnamed before none) answered
   named before rest rows begins none accepted answered e is =
       let whole : answered ≡ answer refused before (answer refused rest accepted) =
@@ -54,32 +54,32 @@ module _ {A : Type 0} (refused : ℕ → A) where
       rw e
       (whole
       ∙ (sym (twice before (answer refused rest accepted))
-      ∙ (ap (answer refused before) (sym whole) ∙ sym (in_two before ((element_too_high when false) ∷ []) answered))))
+      ∙ (ap (answer refused before) (sym whole) ∙ sym (in_two before ((ElementTooHigh when false) ∷ []) answered))))
 
 -- a list with 3 where a byte stands for nothing, behind so many rows: in the row of 3, where the list has one there
-abbrev pub with_three : ℕ → Bool → List Refusal → List Refusal
-with_three zero none [] = (element_too_high when none) ∷ []
+abbrev pub with_three : ℕ → Bool → List Cause → List Cause
+with_three zero none [] = (ElementTooHigh when none) ∷ []
 with_three zero none (row ∷ rows) =
-    cond (eqb row.number element_too_high) ((element_too_high when (none || row.applies)) ∷ rows) ((element_too_high when none) ∷ row ∷ rows)
-with_three (suc n) none [] = (element_too_high when none) ∷ []
+    cond (eqb row.number ElementTooHigh) ((ElementTooHigh when (none || row.applies)) ∷ rows) ((ElementTooHigh when none) ∷ row ∷ rows)
+with_three (suc n) none [] = (ElementTooHigh when none) ∷ []
 with_three (suc n) none (row ∷ rows) = row ∷ with_three n none rows
 
 -- the rows before 3, 3, and else the call: that is one list
 module _ {A : Type 0} (refused : ℕ → A) (none : Bool) (accepted : A) where
   pub one_list :
-      (n : ℕ) (rows : List Refusal)
+      (n : ℕ) (rows : List Cause)
       → answer refused (then_unnamed (take n rows) none) (answer refused rows accepted) ≡ answer refused (with_three n none rows) accepted
   one_list zero [] = refl
-  one_list zero (row ∷ rows) = go (eqb row.number element_too_high) refl none row.applies
+  one_list zero (row ∷ rows) = go (eqb row.number ElementTooHigh) refl none row.applies
     where
       go :
-          (t : Bool) → eqb row.number element_too_high ≡ t → (none applies : Bool)
-          → cond none (refused element_too_high) (cond applies (refused row.number) (answer refused rows accepted))
+          (t : Bool) → eqb row.number ElementTooHigh ≡ t → (none applies : Bool)
+          → cond none (refused ElementTooHigh) (cond applies (refused row.number) (answer refused rows accepted))
           ≡ answer refused
-          (cond t ((element_too_high when (none || applies)) ∷ rows) ((element_too_high when none) ∷ (row.number when applies) ∷ rows))
+          (cond t ((ElementTooHigh when (none || applies)) ∷ rows) ((ElementTooHigh when none) ∷ (row.number when applies) ∷ rows))
           accepted
       go true e true applies = refl
-      go true e false true = ap refused (eqb-true row.number element_too_high e)
+      go true e false true = ap refused (eqb-true row.number ElementTooHigh e)
       go true e false false = refl
       go false e none applies = refl
   one_list (suc n) [] = refl

@@ -6,15 +6,12 @@ use mathlib.Core.Bool.{false}
 use mathlib.Core.List.{List, [], ◌∷◌}
 use lib.Dec.{ltb}
 use lib.IntN.{ℤ}
-use Rattle.refusals.specs.Table.{element_too_high}
+use Rattle.std.specs.Prelude.{Err}
+use Rattle.refusals.specs.declared.types.Refusal.TheVariants.{ElementTooHigh}
 use Rattle.refusals.specs.Answer.{◌when◌, answer}
 use Rattle.rates.specs.declared.types.Flag.{Flag}
 use Rattle.clock.specs.declared.types.DayFrame.{DayFrame}
-use Rattle.clock.specs.declared.types.Numbered.TheVariants.{Refused as Unnumbered}
-use Rattle.clock.specs.declared.types.Span.TheVariants.{Refused as Unmeasured}
 use Rattle.pictures.specs.declared.types.Picture.{Picture}
-use Rattle.pictures.specs.declared.types.InSecond.TheVariants.{Refused as Uncounted}
-use Rattle.pictures.specs.declared.types.Pictured.TheVariants.{Refused as Unpictured}
 use Rattle.record.specs.declared.types.Record.{Record}
 use Rattle.polarity.specs.declared.types.Found.{Found}
 use Rattle.polarity.specs.Word.{word_of}
@@ -53,24 +50,24 @@ module _ (mode : ℕ) (drop : Flag) where
 
   pub number_itself : (p : Picture) → number_for mode (flag_shown drop) (picture_shown p) ≡ number_answer (number_in mode drop p)
   unfolding number_for number_in
-  number_itself p = rw (flag_itself drop) (counted_itself number_answer Unnumbered (number_in mode drop p) _ refl)
+  number_itself p = rw (flag_itself drop) (counted_itself number_answer Err (number_in mode drop p) _ refl)
 
   pub in_second_itself : (p : Picture) → in_second_for mode (flag_shown drop) (picture_shown p) ≡ second_answer (in_second_in mode drop p)
   unfolding in_second_for in_second_in
-  in_second_itself p = rw (flag_itself drop) (counted_itself second_answer Uncounted (in_second_in mode drop p) _ refl)
+  in_second_itself p = rw (flag_itself drop) (counted_itself second_answer Err (in_second_in mode drop p) _ refl)
 
   pub picture_itself : (n : DayFrame) → picture_for mode (flag_shown drop) n.0 ≡ picture_answer (picture_in mode drop n)
   unfolding picture_for picture_in
-  picture_itself n = rw (flag_itself drop) (counted_itself picture_answer Unpictured (picture_in mode drop n) _ refl)
+  picture_itself n = rw (flag_itself drop) (counted_itself picture_answer Err (picture_in mode drop n) _ refl)
 
   pub distance_itself :
       (from to : Picture) → distance_for mode (flag_shown drop) (picture_shown from) (picture_shown to) ≡ distance_answer (span_in mode drop from to)
   unfolding distance_for span_in
-  distance_itself from to = rw (flag_itself drop) (counted_itself distance_answer Unmeasured (span_in mode drop from to) _ refl)
+  distance_itself from to = rw (flag_itself drop) (counted_itself distance_answer Err (span_in mode drop from to) _ refl)
 
   pub add_itself : (p : Picture) (z : ℤ) → add_for mode (flag_shown drop) (picture_shown p) z ≡ picture_answer (plus_in mode drop p z)
   unfolding add_for plus_in
-  add_itself p z = rw (flag_itself drop) (counted_itself picture_answer Unpictured (plus_in mode drop p z) _ refl)
+  add_itself p z = rw (flag_itself drop) (counted_itself picture_answer Err (plus_in mode drop p z) _ refl)
 
 -- the writes, with the lent run
 module _ (mode : ℕ) (r : Record) (start : ℕ) (run : List ℕ) where
@@ -137,7 +134,7 @@ module _ (r : Reader) where
   step_itself element =
       let shown = reader_shown r in
       sym (fed.answered step_answer step_with (λ reader n. after reader (Unheard n)) shown (λ n. refl) false (sym (reader_named r)) refl
-      ((element_too_high when ltb 1 element) ∷ []) (feed_refusals (reader_given shown) element) refl (bit_taken (reader_given shown) element) _ refl)
+      ((ElementTooHigh when ltb 1 element) ∷ []) (feed_refusals (reader_given shown) element) refl (bit_taken (reader_given shown) element) _ refl)
       ∙ ap (λ (x : Reader). step_answer (stepped_of x element)) (reader_itself r)
 
   pub block_itself : (limit : ℕ) (run : List ℕ) → block_for (reader_shown r) limit run ≡ block_answer (blocked_of r limit run)

@@ -7,19 +7,17 @@ use mathlib.Core.Bool.{Bool, true, false, ◌||◌}
 use mathlib.Core.List.{List, [], ◌∷◌, ◌++◌}
 use lib.Dec.{ltb}
 use lib.IntN.{ℤ}
-use Rattle.refusals.specs.Table.{the_order, element_too_high}
-use Rattle.refusals.specs.Answer.{Refusal, ◌when◌, answer, in_order}
+use Rattle.std.specs.Prelude.{Err, Ok}
+use Rattle.refusals.specs.declared.types.Refusal.{Refusal}
+use Rattle.refusals.specs.declared.types.Refusal.TheVariants.{ElementTooHigh}
+use Rattle.refusals.specs.Table.{the_order}
+use Rattle.refusals.specs.Answer.{Cause, ◌when◌, answer, in_order}
 use Rattle.round.specs.Round.{distance_of, sum_of}
 use Rattle.rates.specs.Rates.{is_yes, frames_in_second}
 use Rattle.layout.specs.Flags.{flag_of}
-use Rattle.clock.specs.declared.types.Numbered.TheVariants.{Number, Refused as Unnumbered}
-use Rattle.clock.specs.declared.types.Span.TheVariants.{Frames, Refused as Unmeasured}
 use Rattle.pictures.specs.declared.types.Picture.{Picture}
-use Rattle.pictures.specs.declared.types.InSecond.TheVariants.{Number as NumberWithin, Refused as Uncounted}
-use Rattle.pictures.specs.declared.types.Pictured.TheVariants.{At, Refused as Unpictured}
 use Rattle.pictures.specs.Pictures.{pictures_in_day, picture_number, number_in_second, picture_at}
 use Rattle.pictures.specs.Calls.{picture_refusals, two_refusals, number_refusals}
-use Rattle.runs.specs.declared.types.Written.TheVariants.{Done, Refused}
 use Rattle.runs.specs.Run.{placed, written_by, run_after}
 use Rattle.polarity.specs.Word.{word_of}
 use Rattle.modes.specs.Modes.{rate_at, pictures_at, with_counting}
@@ -28,7 +26,6 @@ use Rattle.ltc.specs.Calls as ltc
 use Rattle.vitc.specs.Calls as vitc
 use Rattle.words.specs.Words.{info_in}
 use Rattle.packets.specs.Packet.{data_in, type_in, second_in}
-use Rattle.atc.specs.declared.types.Packet.TheVariants.{Holds, Refused as Unopened}
 use Rattle.atc.specs.Records.{held_in}
 use Rattle.atc.specs.Calls as atc
 use Rattle.register.specs.declared.types.Reader.{Reader}
@@ -52,7 +49,7 @@ use Rattle.host.proofs.Fed.{its_own}
 
 -- the calls that count: whatever list the mode's call has after 2
 counted_one_list :
-    {A B : Type 0} (shown : A → B) (refused : ℕ → A) (mode drop : ℕ) (answered accepted : A) (rows : List Refusal)
+    {A B : Type 0} (shown : A → B) (refused : ℕ → A) (mode drop : ℕ) (answered accepted : A) (rows : List Cause)
     → answered ≡ answer refused (with_counting mode rows) accepted
     → counted shown refused mode drop answered ≡ shown (answer refused (with_three 1 (no_flag drop) (with_counting mode rows)) accepted)
 counted_one_list shown refused mode drop answered accepted rows is =
@@ -69,47 +66,47 @@ module _ (mode drop : ℕ) where
   day = pictures_in_day (rate_at mode) (pictures_at mode) (is_yes (flag_of drop))
 
   module _ (p : PlainPicture) where
-    abbrev own : List Refusal
+    abbrev own : List Cause
     own = picture_refusals (rate_at mode) (pictures_at mode) (flag_of drop) (picture_given p)
 
-    abbrev of_one : List Refusal
+    abbrev of_one : List Cause
     of_one = with_three 1 (no_flag drop) (with_counting mode own)
 
     pub one_in_order : in_order the_order of_one ≡ true
     one_in_order = refl
 
-    pub number_one_list : number_for mode drop p ≡ number_answer (answer Unnumbered of_one (Number (record { 0 = numbering p })))
+    pub number_one_list : number_for mode drop p ≡ number_answer (answer Err of_one (Ok (record { 0 = numbering p })))
     unfolding number_for
-    number_one_list = counted_one_list number_answer Unnumbered mode drop _ _ own (number_rows mode (flag_of drop) (picture_given p))
+    number_one_list = counted_one_list number_answer Err mode drop _ _ own (number_rows mode (flag_of drop) (picture_given p))
 
     pub in_second_one_list :
-        in_second_for mode drop p ≡ second_answer (answer Uncounted of_one (NumberWithin (record { 0 = number_in_second (pictures_at mode) (picture_given p) })))
+        in_second_for mode drop p ≡ second_answer (answer Err of_one (Ok (record { 0 = number_in_second (pictures_at mode) (picture_given p) })))
     unfolding in_second_for
-    in_second_one_list = counted_one_list second_answer Uncounted mode drop _ _ own (in_second_rows mode (flag_of drop) (picture_given p))
+    in_second_one_list = counted_one_list second_answer Err mode drop _ _ own (in_second_rows mode (flag_of drop) (picture_given p))
 
-    pub add_one_list : (z : ℤ) → add_for mode drop p z ≡ picture_answer (answer Unpictured of_one (At (numbered (sum_of day (numbering p) z))))
+    pub add_one_list : (z : ℤ) → add_for mode drop p z ≡ picture_answer (answer Err of_one (Ok (numbered (sum_of day (numbering p) z))))
     unfolding add_for
-    add_one_list z = counted_one_list picture_answer Unpictured mode drop _ _ own (plus_rows mode (flag_of drop) (picture_given p) z)
+    add_one_list z = counted_one_list picture_answer Err mode drop _ _ own (plus_rows mode (flag_of drop) (picture_given p) z)
 
   pub distance_one_list :
       (from to : PlainPicture)
       → let own = two_refusals (rate_at mode) (pictures_at mode) (flag_of drop) (picture_given from) (picture_given to) in
       let rows = with_three 1 (no_flag drop) (with_counting mode own) in
-      (distance_for mode drop from to ≡ distance_answer (answer Unmeasured rows (Frames (distance_of day (numbering from) (numbering to)))))
+      (distance_for mode drop from to ≡ distance_answer (answer Err rows (Ok (distance_of day (numbering from) (numbering to)))))
       × (in_order the_order rows ≡ true)
   unfolding distance_for
   distance_one_list from to =
       let own = two_refusals (rate_at mode) (pictures_at mode) (flag_of drop) (picture_given from) (picture_given to) in
-      (counted_one_list distance_answer Unmeasured mode drop _ _ own (span_rows mode (flag_of drop) (picture_given from) (picture_given to)), refl)
+      (counted_one_list distance_answer Err mode drop _ _ own (span_rows mode (flag_of drop) (picture_given from) (picture_given to)), refl)
 
   pub picture_one_list :
       (n : ℕ) → let own = number_refusals (rate_at mode) (pictures_at mode) (flag_of drop) n in
       let rows = with_three 1 (no_flag drop) (with_counting mode own) in
-      (picture_for mode drop n ≡ picture_answer (answer Unpictured rows (At (numbered n)))) × (in_order the_order rows ≡ true)
+      (picture_for mode drop n ≡ picture_answer (answer Err rows (Ok (numbered n)))) × (in_order the_order rows ≡ true)
   unfolding picture_for
   picture_one_list n =
       let own = number_refusals (rate_at mode) (pictures_at mode) (flag_of drop) n in
-      (counted_one_list picture_answer Unpictured mode drop _ _ own (picture_rows mode (flag_of drop) (record { 0 = n })), refl)
+      (counted_one_list picture_answer Err mode drop _ _ own (picture_rows mode (flag_of drop) (record { 0 = n })), refl)
 
 -- the writes: one list says what is answered and what becomes of the run
 module _ (mode : ℕ) (r : PlainRecord) (start : ℕ) (run : List ℕ) where
@@ -122,7 +119,7 @@ module _ (mode : ℕ) (r : PlainRecord) (start : ℕ) (run : List ℕ) where
   ltc_one_list make =
       let none = flag_above_1 r || no_make make in
       let rows = ltc.written_rows mode (record_given r) start run in (
-        ap written_code (one_list Refused none Done 1 rows),
+        ap written_code (one_list Err none (Ok tt) 1 rows),
         one_list (λ (n : ℕ). run) none (placed start (word_of mode (record_given r) (make_given make)) run) 1 rows,
         refl,
       )
@@ -135,7 +132,7 @@ module _ (mode : ℕ) (r : PlainRecord) (start : ℕ) (run : List ℕ) where
   unfolding vitc_written vitc_run vitc.written_of
   vitc_one_list =
       let rows = vitc.written_rows mode (record_given r) start run in (
-        ap written_code (one_list Refused (flag_above_1 r) Done 1 rows),
+        ap written_code (one_list Err (flag_above_1 r) (Ok tt) 1 rows),
         one_list (λ (n : ℕ). run) (flag_above_1 r) (placed start (vitc.line_of mode (record_given r)) run) 1 rows,
         refl,
       )
@@ -152,7 +149,7 @@ unfolding atc_written atc_run atc.written_of atc.run_of
 atc_one_list mode interface c start run =
     let none = flag_above_1 c.«record» || no_interface interface in
     let rows = atc.written_rows mode (interface_given interface) (record_given c.«record») c.payload_type c.second start run in (
-      ap written_code (one_list Refused none Done 1 rows),
+      ap written_code (one_list Err none (Ok tt) 1 rows),
       one_list (λ (n : ℕ). run) none (placed start (atc.packet_of mode (record_given c.«record») c.payload_type c.second) run) 1 rows,
       refl,
     )
@@ -162,12 +159,12 @@ pub open_one_list :
     (mode interface : ℕ) (words : List ℕ)
     → let rows = with_three 2 (no_interface interface) (atc.read_refusals mode (interface_given interface) words) in
     let carried = atc.contents_with (held_in mode (type_in words) (info_in (data_in words))) (type_in words) (second_in words) in
-    (atc_read mode interface words ≡ packet_answer (answer Unopened rows (Holds carried))) × (in_order the_order rows ≡ true)
+    (atc_read mode interface words ≡ packet_answer (answer Err rows (Ok carried))) × (in_order the_order rows ≡ true)
 unfolding atc_read atc.read_of
 open_one_list mode interface words =
     let rows = atc.read_refusals mode (interface_given interface) words in
     let carried = atc.contents_with (held_in mode (type_in words) (info_in (data_in words))) (type_in words) (second_in words) in
-    (ap packet_answer (one_list Unopened (no_interface interface) (Holds carried) 2 rows), refl)
+    (ap packet_answer (one_list Err (no_interface interface) (Ok carried) 2 rows), refl)
 
 -- a reader: what it refuses, and ways that are none, in one list, and the reader as it was
 module _ {S A : Type 0} (shown : S → A) (back : PlainHeard → PlainReader → A) (refusing : Reader → ℕ → S) (r : PlainReader) where
@@ -175,8 +172,8 @@ module _ {S A : Type 0} (shown : S → A) (back : PlainHeard → PlainReader →
   unheard n = back (heard_shown (Unheard n)) r
 
   fed_one_list :
-      ((n : ℕ) → shown (refusing (reader_given r) n) ≡ back (heard_shown (Unheard n)) (reader_shown (reader_given r)))
-      → (rest : List Refusal) (accepted : S) → let rows = reader_refusals (reader_given r) ++ rest in
+      ((n : Refusal) → shown (refusing (reader_given r) n) ≡ back (heard_shown (Unheard n)) (reader_shown (reader_given r)))
+      → (rest : List Cause) (accepted : S) → let rows = reader_refusals (reader_given r) ++ rest in
       answer unheard (reader_rows r) (shown (answer (refusing (reader_given r)) rows accepted))
       ≡ answer unheard (with_three 2 (no_ways r.ways) rows) (shown accepted)
   fed_one_list as_shown rest accepted = go (no_ways r.ways) refl
@@ -198,11 +195,11 @@ module _ (r : PlainReader) where
   pub step_one_list :
       (element : ℕ) → let rows = with_three 2 (no_ways r.ways) (feed_refusals (reader_given r) element) in
       (step_for r element
-      ≡ answer (λ (n : ℕ). step_with (heard_shown (Unheard n)) r) rows (step_answer (bit_taken (reader_given r) element)))
+      ≡ answer (λ (n : Refusal). step_with (heard_shown (Unheard n)) r) rows (step_answer (bit_taken (reader_given r) element)))
       × (in_order the_order rows ≡ true)
   unfolding step_for stepped_of
   step_one_list element = (
-    fed_one_list step_answer step_with (λ reader n. after reader (Unheard n)) r (λ n. refl) ((element_too_high when ltb 1 element) ∷ [])
+    fed_one_list step_answer step_with (λ reader n. after reader (Unheard n)) r (λ n. refl) ((ElementTooHigh when ltb 1 element) ∷ [])
         (bit_taken (reader_given r) element),
     refl,
   )
@@ -210,7 +207,7 @@ module _ (r : PlainReader) where
   pub block_one_list :
       (limit : ℕ) (run : List ℕ) → let rows = with_three 2 (no_ways r.ways) (reader_refusals (reader_given r)) in
       (block_for r limit run
-      ≡ answer (λ (n : ℕ). block_with (heard_shown (Unheard n)) r 0) rows (block_answer (going (reader_given r) limit run)))
+      ≡ answer (λ (n : Refusal). block_with (heard_shown (Unheard n)) r 0) rows (block_answer (going (reader_given r) limit run)))
       × (in_order the_order rows ≡ true)
   unfolding block_for blocked_of
   block_one_list limit run = (

@@ -1,12 +1,8 @@
 -- What the calls that count answer a host.
 -- Assumes nothing.
-use Rattle.std.specs.Prelude.{ℕ, List, [], ℤ}
-use Rattle.refusals.specs.Answer.{Refusal, answer}
+use Rattle.std.specs.Prelude.{ℕ, List, [], ℤ, Err}
+use Rattle.refusals.specs.Answer.{Cause, answer}
 use Rattle.layout.specs.Flags.{flag_of}
-use Rattle.clock.specs.declared.types.Numbered.TheVariants.{Refused as Unnumbered}
-use Rattle.clock.specs.declared.types.Span.TheVariants.{Refused as Unmeasured}
-use Rattle.pictures.specs.declared.types.InSecond.TheVariants.{Refused as Uncounted}
-use Rattle.pictures.specs.declared.types.Pictured.TheVariants.{Refused as Unpictured}
 use Rattle.modes.specs.Modes.{with_counting}
 use Rattle.modes.specs.Calls.{number_in, in_second_in, picture_in, span_in, plus_in}
 use Rattle.plain.specs.declared.types.PlainPicture.{PlainPicture}
@@ -19,7 +15,7 @@ use Rattle.plain.specs.Answers.{number_answer, second_answer, picture_answer, di
 use Rattle.host.specs.Unnamed.{then_unnamed}
 
 -- 2 a mode in which nothing is counted; 3 a drop that is no flag
-abbrev pub count_rows : ℕ → ℕ → List Refusal
+abbrev pub count_rows : ℕ → ℕ → List Cause
 count_rows mode drop = then_unnamed (with_counting mode []) (no_flag drop)
 
 -- and else what the call answers, shown as a host has it
@@ -27,17 +23,17 @@ abbrev pub counted : {A B : Type 0} → (A → B) → (ℕ → A) → ℕ → �
 counted shown refused mode drop answered = shown (answer refused (count_rows mode drop) answered)
 
 unfoldable pub number_for : ℕ → ℕ → PlainPicture → NumberAnswer
-number_for mode drop p = counted number_answer Unnumbered mode drop (number_in mode (flag_of drop) (picture_given p))
+number_for mode drop p = counted number_answer Err mode drop (number_in mode (flag_of drop) (picture_given p))
 
 unfoldable pub in_second_for : ℕ → ℕ → PlainPicture → SecondAnswer
-in_second_for mode drop p = counted second_answer Uncounted mode drop (in_second_in mode (flag_of drop) (picture_given p))
+in_second_for mode drop p = counted second_answer Err mode drop (in_second_in mode (flag_of drop) (picture_given p))
 
 unfoldable pub picture_for : ℕ → ℕ → ℕ → PictureAnswer
-picture_for mode drop number = counted picture_answer Unpictured mode drop (picture_in mode (flag_of drop) (record { 0 = number }))
+picture_for mode drop number = counted picture_answer Err mode drop (picture_in mode (flag_of drop) (record { 0 = number }))
 
 unfoldable pub distance_for : ℕ → ℕ → PlainPicture → PlainPicture → DistanceAnswer
 distance_for mode drop from to =
-    counted distance_answer Unmeasured mode drop (span_in mode (flag_of drop) (picture_given from) (picture_given to))
+    counted distance_answer Err mode drop (span_in mode (flag_of drop) (picture_given from) (picture_given to))
 
 unfoldable pub add_for : ℕ → ℕ → PlainPicture → ℤ → PictureAnswer
-add_for mode drop p pictures = counted picture_answer Unpictured mode drop (plus_in mode (flag_of drop) (picture_given p) pictures)
+add_for mode drop p pictures = counted picture_answer Err mode drop (plus_in mode (flag_of drop) (picture_given p) pictures)

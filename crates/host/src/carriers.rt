@@ -3,12 +3,9 @@ ghost use Rattle.std.specs.Prelude.{◌≡◌};
 ghost use Rattle.host.specs.Carriers.{ltc_read, ltc_written, ltc_run, vitc_read, vitc_written, vitc_run, atc_read, atc_written, atc_run};
 
 use crate::unnamed::after_mode;
-use atc::Packet;
 use modes::{is_uncounted, is_unknown};
-use plain::{
-    LineAnswer, PacketAnswer, PlainContents, PlainRecord, WordAnswer, has_flag_above_1,
-    interface_given, is_no_interface, is_no_make, make_given, record_given,
-};
+use plain::{LineAnswer, PacketAnswer, PlainContents, PlainRecord, WordAnswer, has_flag_above_1, interface_given, is_no_interface, is_no_make, make_given, record_given};
+use refusals::Refusal;
 
 #[unsafe(no_mangle)]
 pub extern "C" fn shx_ltc_read(mode: u8, word: &[u8]) -> WordAnswer
@@ -63,10 +60,10 @@ pub extern "C" fn shx_atc_read(mode: u8, interface: u8, words: &[u16]) -> Packet
 {
     if is_no_interface(interface) {
         if words.len() != 23 {
-            return plain::packet(Packet::Refused(refusals::WRONG_LENGTH));
+            return plain::packet(Err(Refusal::WrongLength));
         }
         let code = after_mode(is_uncounted(mode));
-        return plain::packet(Packet::Refused(code));
+        return plain::packet(Err(code));
     }
     let answer = atc::read(mode, interface_given(interface), words);
     plain::packet(answer)

@@ -3,13 +3,9 @@ ghost use Rattle.std.specs.Prelude.{◌≡◌};
 ghost use Rattle.host.specs.Counting.{number_for, in_second_for, picture_for, distance_for, add_for};
 
 use crate::unnamed::after_mode;
-use clock::{DayFrame, Numbered, Span};
+use clock::DayFrame;
 use modes::is_uncounted;
-use pictures::{InSecond, Pictured};
-use plain::{
-    DistanceAnswer, NumberAnswer, PictureAnswer, PlainPicture, SecondAnswer, flag_given,
-    is_no_flag, picture_given,
-};
+use plain::{DistanceAnswer, NumberAnswer, PictureAnswer, PlainPicture, SecondAnswer, flag_given, is_no_flag, picture_given};
 
 #[unsafe(no_mangle)]
 pub extern "C" fn shx_number(mode: u8, drop: u8, picture: PlainPicture) -> NumberAnswer
@@ -17,7 +13,7 @@ pub extern "C" fn shx_number(mode: u8, drop: u8, picture: PlainPicture) -> Numbe
 {
     if is_no_flag(drop) {
         let code = after_mode(is_uncounted(mode));
-        return plain::number(Numbered::Refused(code));
+        return plain::number(Err(code));
     }
     let answer = modes::number_of(mode, flag_given(drop), picture_given(picture));
     plain::number(answer)
@@ -29,7 +25,7 @@ pub extern "C" fn shx_number_in_second(mode: u8, drop: u8, picture: PlainPicture
 {
     if is_no_flag(drop) {
         let code = after_mode(is_uncounted(mode));
-        return plain::in_second(InSecond::Refused(code));
+        return plain::in_second(Err(code));
     }
     let answer = modes::number_in_second(mode, flag_given(drop), picture_given(picture));
     plain::in_second(answer)
@@ -41,7 +37,7 @@ pub extern "C" fn shx_picture(mode: u8, drop: u8, number: u32) -> PictureAnswer
 {
     if is_no_flag(drop) {
         let code = after_mode(is_uncounted(mode));
-        return plain::picture(Pictured::Refused(code));
+        return plain::picture(Err(code));
     }
     let answer = modes::picture_of(mode, flag_given(drop), DayFrame(number));
     plain::picture(answer)
@@ -58,7 +54,7 @@ pub extern "C" fn shx_distance(
 {
     if is_no_flag(drop) {
         let code = after_mode(is_uncounted(mode));
-        return plain::distance(Span::Refused(code));
+        return plain::distance(Err(code));
     }
     let answer = modes::distance(
         mode,
@@ -75,7 +71,7 @@ pub extern "C" fn shx_add(mode: u8, drop: u8, picture: PlainPicture, pictures: i
 {
     if is_no_flag(drop) {
         let code = after_mode(is_uncounted(mode));
-        return plain::picture(Pictured::Refused(code));
+        return plain::picture(Err(code));
     }
     let answer = modes::add(mode, flag_given(drop), picture_given(picture), pictures);
     plain::picture(answer)

@@ -3,14 +3,15 @@ ghost use Rattle.std.specs.Prelude.{◌≡◌};
 ghost use Rattle.host.specs.Unnamed.{after_mode, after_reader};
 
 use register::{Reader, is_unreached};
+use refusals::Refusal;
 
 pub fn after_mode(unknown: bool) -> u8
     ensures { result ≡ after_mode unknown }
 {
     if unknown {
-        return refusals::UNKNOWN_MODE;
+        return Refusal::UnknownMode;
     }
-    refusals::ELEMENT_TOO_HIGH
+    Refusal::ElementTooHigh
 }
 
 pub fn after_reader(reader: Reader) -> u8
@@ -18,10 +19,10 @@ pub fn after_reader(reader: Reader) -> u8
 {
     let unknown = modes::is_unknown(reader.mode);
     if unknown {
-        return refusals::UNKNOWN_MODE;
+        return Refusal::UnknownMode;
     }
     if is_unreached(reader) {
-        return refusals::STATE_NOT_REACHED;
+        return Refusal::StateNotReached;
     }
-    refusals::ELEMENT_TOO_HIGH
+    Refusal::ElementTooHigh
 }

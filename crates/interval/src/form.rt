@@ -7,7 +7,7 @@ ghost use Rattle.interval.specs.Line.{wrong_pair, wrong_crc};
 ghost use Rattle.interval.specs.Calls.{form_refusals};
 
 use crate::parity::count_ones;
-use refusals::Verdict;
+use refusals::Refusal;
 
 // An element above 1.
 fn has_high_element(line: &[u8]) -> bool
@@ -57,27 +57,27 @@ fn has_wrong_crc(line: &[u8]) -> bool
 }
 
 // Whether the elements have the form of a line, whatever they carry.
-pub fn judge(mode: u8, line: &[u8]) -> Verdict
+pub fn judge(mode: u8, line: &[u8]) -> Result<(), Refusal>
     ensures { result ≡ verdict_of (form_refusals mode line.now) }
 {
     if line.len() != 90 {
-        return Verdict::Refused(refusals::WRONG_LENGTH);
+        return Err(Refusal::WrongLength);
     }
     if modes::is_unknown(mode) {
-        return Verdict::Refused(refusals::UNKNOWN_MODE);
+        return Err(Refusal::UnknownMode);
     }
     let high = has_high_element(line);
     let pair = has_wrong_pair(line);
     let crc = has_wrong_crc(line);
     let sound = !(high | pair | crc);
     if sound {
-        return Verdict::Sound;
+        return Ok(());
     }
     if high {
-        return Verdict::Refused(refusals::ELEMENT_TOO_HIGH);
+        return Err(Refusal::ElementTooHigh);
     }
     if pair {
-        return Verdict::Refused(refusals::WRONG_SYNC);
+        return Err(Refusal::WrongSync);
     }
-    Verdict::Refused(refusals::WRONG_CHECK)
+    Err(Refusal::WrongCheck)
 }

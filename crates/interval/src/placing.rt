@@ -5,7 +5,7 @@ ghost use Rattle.runs.specs.Run.{written_by, run_after, room_refusals};
 ghost use Rattle.interval.specs.Line.{crc_of, groups, line_with};
 
 use crate::parity::parity;
-use runs::Written;
+use refusals::Refusal;
 
 // Eight groups of ten: the pair 1, 0 and eight information bits, low bit first.
 fn write_groups(info: u64, part: &mut [u8])
@@ -48,14 +48,14 @@ fn write_line(info: u64, line: &mut [u8])
     runs::scatter(check, &mut line[82..90]);
 }
 
-pub fn place(info: u64, start: usize, run: &mut [u8]) -> Written
+pub fn place(info: u64, start: usize, run: &mut [u8]) -> Result<(), Refusal>
     ensures { (result ≡ written_by (room_refusals 90 start run.old))
         × (run.new ≡ run_after (room_refusals 90 start run.old) start (line_with info) run.old) }
 {
     if runs::lacks_room(90, start, run.len()) {
-        return Written::Refused(refusals::NO_ROOM);
+        return Err(Refusal::NoRoom);
     }
     let end = start + 90;
     write_line(info, &mut run[start..end]);
-    Written::Done
+    Ok(())
 }

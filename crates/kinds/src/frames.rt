@@ -6,8 +6,9 @@ ghost use Rattle.rates.specs.declared.types.Rate.TheVariants.{At24, At25, At30};
 ghost use Rattle.rates.specs.Face.{showing};
 ghost use Rattle.clock.specs.Calls.{address_of, fields_of};
 
-use clock::{DayFrame, Placed, address_from, address_of};
-use rates::{Flag, Rate, SecondFrame};
+use clock::{DayFrame, address_from, address_of};
+use rates::{Flag, Rate, SecondFrame, Address};
+use refusals::Refusal;
 
 #[derive(Clone, Copy)]
 pub struct Frames24;
@@ -26,13 +27,13 @@ impl Frames24 {
 
     pub const IN_DAY: u32 = 2_073_600;
 
-    pub fn from_number(number: DayFrame) -> Placed
+    pub fn from_number(number: DayFrame) -> Result<Address, Refusal>
         ensures { result ≡ address_of At24 No number }
     {
         address_of(Rate::At24, Flag::No, number)
     }
 
-    pub fn from_fields(hours: u8, minutes: u8, seconds: u8, frames: SecondFrame) -> Placed
+    pub fn from_fields(hours: u8, minutes: u8, seconds: u8, frames: SecondFrame) -> Result<Address, Refusal>
         ensures { result ≡ fields_of At24 No (showing hours minutes seconds frames.0) }
     {
         address_from(Rate::At24, Flag::No, hours, minutes, seconds, frames)
@@ -44,13 +45,13 @@ impl Frames25 {
 
     pub const IN_DAY: u32 = 2_160_000;
 
-    pub fn from_number(number: DayFrame) -> Placed
+    pub fn from_number(number: DayFrame) -> Result<Address, Refusal>
         ensures { result ≡ address_of At25 No number }
     {
         address_of(Rate::At25, Flag::No, number)
     }
 
-    pub fn from_fields(hours: u8, minutes: u8, seconds: u8, frames: SecondFrame) -> Placed
+    pub fn from_fields(hours: u8, minutes: u8, seconds: u8, frames: SecondFrame) -> Result<Address, Refusal>
         ensures { result ≡ fields_of At25 No (showing hours minutes seconds frames.0) }
     {
         address_from(Rate::At25, Flag::No, hours, minutes, seconds, frames)
@@ -62,13 +63,13 @@ impl Frames30 {
 
     pub const IN_DAY: u32 = 2_592_000;
 
-    pub fn from_number(number: DayFrame) -> Placed
+    pub fn from_number(number: DayFrame) -> Result<Address, Refusal>
         ensures { result ≡ address_of At30 No number }
     {
         address_of(Rate::At30, Flag::No, number)
     }
 
-    pub fn from_fields(hours: u8, minutes: u8, seconds: u8, frames: SecondFrame) -> Placed
+    pub fn from_fields(hours: u8, minutes: u8, seconds: u8, frames: SecondFrame) -> Result<Address, Refusal>
         ensures { result ≡ fields_of At30 No (showing hours minutes seconds frames.0) }
     {
         address_from(Rate::At30, Flag::No, hours, minutes, seconds, frames)
@@ -80,13 +81,13 @@ impl Frames30Drop {
 
     pub const IN_DAY: u32 = 2_589_408;
 
-    pub fn from_number(number: DayFrame) -> Placed
+    pub fn from_number(number: DayFrame) -> Result<Address, Refusal>
         ensures { result ≡ address_of At30 Yes number }
     {
         address_of(Rate::At30, Flag::Yes, number)
     }
 
-    pub fn from_fields(hours: u8, minutes: u8, seconds: u8, frames: SecondFrame) -> Placed
+    pub fn from_fields(hours: u8, minutes: u8, seconds: u8, frames: SecondFrame) -> Result<Address, Refusal>
         ensures { result ≡ fields_of At30 Yes (showing hours minutes seconds frames.0) }
     {
         address_from(Rate::At30, Flag::Yes, hours, minutes, seconds, frames)

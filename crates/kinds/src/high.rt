@@ -10,8 +10,9 @@ ghost use Rattle.pictures.specs.Pictures.{picture};
 ghost use Rattle.pictures.specs.Calls.{picture_of, fields_of};
 
 use clock::DayFrame;
-use pictures::{Pictured, picture_from, picture_of};
+use pictures::{picture_from, picture_of, Picture};
 use rates::{Flag, Rate, SecondFrame};
+use refusals::Refusal;
 
 #[derive(Clone, Copy)]
 pub struct Frames72;
@@ -38,7 +39,7 @@ impl Frames72 {
 
     pub const LAST_PLACE: u8 = 2;
 
-    pub fn from_number(number: DayFrame) -> Pictured
+    pub fn from_number(number: DayFrame) -> Result<Picture, Refusal>
         ensures { result ≡ picture_of At24 3 No number }
     {
         picture_of(Rate::At24, Frames72::LAST_PLACE, Flag::No, number)
@@ -50,7 +51,7 @@ impl Frames72 {
         seconds: u8,
         frames: SecondFrame,
         place: u8,
-    ) -> Pictured
+    ) -> Result<Picture, Refusal>
         ensures { result ≡ fields_of At24 3 No (picture (showing hours minutes seconds frames.0) place) }
     {
         picture_from(
@@ -73,7 +74,7 @@ impl Frames96 {
 
     pub const LAST_PLACE: u8 = 3;
 
-    pub fn from_number(number: DayFrame) -> Pictured
+    pub fn from_number(number: DayFrame) -> Result<Picture, Refusal>
         ensures { result ≡ picture_of At24 4 No number }
     {
         picture_of(Rate::At24, Frames96::LAST_PLACE, Flag::No, number)
@@ -85,7 +86,7 @@ impl Frames96 {
         seconds: u8,
         frames: SecondFrame,
         place: u8,
-    ) -> Pictured
+    ) -> Result<Picture, Refusal>
         ensures { result ≡ fields_of At24 4 No (picture (showing hours minutes seconds frames.0) place) }
     {
         picture_from(
@@ -108,7 +109,7 @@ impl Frames100 {
 
     pub const LAST_PLACE: u8 = 3;
 
-    pub fn from_number(number: DayFrame) -> Pictured
+    pub fn from_number(number: DayFrame) -> Result<Picture, Refusal>
         ensures { result ≡ picture_of At25 4 No number }
     {
         picture_of(Rate::At25, Frames100::LAST_PLACE, Flag::No, number)
@@ -120,7 +121,7 @@ impl Frames100 {
         seconds: u8,
         frames: SecondFrame,
         place: u8,
-    ) -> Pictured
+    ) -> Result<Picture, Refusal>
         ensures { result ≡ fields_of At25 4 No (picture (showing hours minutes seconds frames.0) place) }
     {
         picture_from(
@@ -143,7 +144,7 @@ impl Frames120As24x5 {
 
     pub const LAST_PLACE: u8 = 4;
 
-    pub fn from_number(number: DayFrame) -> Pictured
+    pub fn from_number(number: DayFrame) -> Result<Picture, Refusal>
         ensures { result ≡ picture_of At24 5 No number }
     {
         picture_of(Rate::At24, Frames120As24x5::LAST_PLACE, Flag::No, number)
@@ -155,7 +156,7 @@ impl Frames120As24x5 {
         seconds: u8,
         frames: SecondFrame,
         place: u8,
-    ) -> Pictured
+    ) -> Result<Picture, Refusal>
         ensures { result ≡ fields_of At24 5 No (picture (showing hours minutes seconds frames.0) place) }
     {
         picture_from(
@@ -178,7 +179,7 @@ impl Frames120As30x4 {
 
     pub const LAST_PLACE: u8 = 3;
 
-    pub fn from_number(number: DayFrame) -> Pictured
+    pub fn from_number(number: DayFrame) -> Result<Picture, Refusal>
         ensures { result ≡ picture_of At30 4 No number }
     {
         picture_of(Rate::At30, Frames120As30x4::LAST_PLACE, Flag::No, number)
@@ -190,7 +191,7 @@ impl Frames120As30x4 {
         seconds: u8,
         frames: SecondFrame,
         place: u8,
-    ) -> Pictured
+    ) -> Result<Picture, Refusal>
         ensures { result ≡ fields_of At30 4 No (picture (showing hours minutes seconds frames.0) place) }
     {
         picture_from(
@@ -213,7 +214,7 @@ impl Frames120Drop {
 
     pub const LAST_PLACE: u8 = 3;
 
-    pub fn from_number(number: DayFrame) -> Pictured
+    pub fn from_number(number: DayFrame) -> Result<Picture, Refusal>
         ensures { result ≡ picture_of At30 4 Yes number }
     {
         picture_of(Rate::At30, Frames120Drop::LAST_PLACE, Flag::Yes, number)
@@ -225,7 +226,7 @@ impl Frames120Drop {
         seconds: u8,
         frames: SecondFrame,
         place: u8,
-    ) -> Pictured
+    ) -> Result<Picture, Refusal>
         ensures { result ≡ fields_of At30 4 Yes (picture (showing hours minutes seconds frames.0) place) }
     {
         picture_from(

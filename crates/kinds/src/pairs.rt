@@ -10,8 +10,9 @@ ghost use Rattle.pictures.specs.Pictures.{picture};
 ghost use Rattle.pictures.specs.Calls.{picture_of, fields_of};
 
 use clock::DayFrame;
-use pictures::{Pictured, picture_from, picture_of};
+use pictures::{picture_from, picture_of, Picture};
 use rates::{Flag, Rate, SecondFrame};
+use refusals::Refusal;
 
 // The place of the last picture that shares an address.
 const LAST: u8 = 1;
@@ -28,7 +29,7 @@ pub struct Frames60;
 #[derive(Clone, Copy)]
 pub struct Frames60Drop;
 
-fn pair_of(rate: Rate, drop: Flag, number: DayFrame) -> Pictured
+fn pair_of(rate: Rate, drop: Flag, number: DayFrame) -> Result<Picture, Refusal>
     ensures { result ≡ picture_of rate 2 drop number }
 {
     picture_of(rate, LAST, drop, number)
@@ -42,7 +43,7 @@ fn pair_from(
     seconds: u8,
     frames: SecondFrame,
     place: u8,
-) -> Pictured
+) -> Result<Picture, Refusal>
     ensures { result ≡ fields_of rate 2 drop (picture (showing hours minutes seconds frames.0) place) }
 {
     picture_from(rate, LAST, drop, hours, minutes, seconds, frames, place)
@@ -53,7 +54,7 @@ impl Frames48 {
 
     pub const IN_DAY: u32 = 4_147_200;
 
-    pub fn from_number(number: DayFrame) -> Pictured
+    pub fn from_number(number: DayFrame) -> Result<Picture, Refusal>
         ensures { result ≡ picture_of At24 2 No number }
     {
         pair_of(Rate::At24, Flag::No, number)
@@ -65,7 +66,7 @@ impl Frames48 {
         seconds: u8,
         frames: SecondFrame,
         place: u8,
-    ) -> Pictured
+    ) -> Result<Picture, Refusal>
         ensures { result ≡ fields_of At24 2 No (picture (showing hours minutes seconds frames.0) place) }
     {
         pair_from(Rate::At24, Flag::No, hours, minutes, seconds, frames, place)
@@ -77,7 +78,7 @@ impl Frames50 {
 
     pub const IN_DAY: u32 = 4_320_000;
 
-    pub fn from_number(number: DayFrame) -> Pictured
+    pub fn from_number(number: DayFrame) -> Result<Picture, Refusal>
         ensures { result ≡ picture_of At25 2 No number }
     {
         pair_of(Rate::At25, Flag::No, number)
@@ -89,7 +90,7 @@ impl Frames50 {
         seconds: u8,
         frames: SecondFrame,
         place: u8,
-    ) -> Pictured
+    ) -> Result<Picture, Refusal>
         ensures { result ≡ fields_of At25 2 No (picture (showing hours minutes seconds frames.0) place) }
     {
         pair_from(Rate::At25, Flag::No, hours, minutes, seconds, frames, place)
@@ -101,7 +102,7 @@ impl Frames60 {
 
     pub const IN_DAY: u32 = 5_184_000;
 
-    pub fn from_number(number: DayFrame) -> Pictured
+    pub fn from_number(number: DayFrame) -> Result<Picture, Refusal>
         ensures { result ≡ picture_of At30 2 No number }
     {
         pair_of(Rate::At30, Flag::No, number)
@@ -113,7 +114,7 @@ impl Frames60 {
         seconds: u8,
         frames: SecondFrame,
         place: u8,
-    ) -> Pictured
+    ) -> Result<Picture, Refusal>
         ensures { result ≡ fields_of At30 2 No (picture (showing hours minutes seconds frames.0) place) }
     {
         pair_from(Rate::At30, Flag::No, hours, minutes, seconds, frames, place)
@@ -125,7 +126,7 @@ impl Frames60Drop {
 
     pub const IN_DAY: u32 = 5_178_816;
 
-    pub fn from_number(number: DayFrame) -> Pictured
+    pub fn from_number(number: DayFrame) -> Result<Picture, Refusal>
         ensures { result ≡ picture_of At30 2 Yes number }
     {
         pair_of(Rate::At30, Flag::Yes, number)
@@ -137,7 +138,7 @@ impl Frames60Drop {
         seconds: u8,
         frames: SecondFrame,
         place: u8,
-    ) -> Pictured
+    ) -> Result<Picture, Refusal>
         ensures { result ≡ fields_of At30 2 Yes (picture (showing hours minutes seconds frames.0) place) }
     {
         pair_from(

@@ -8,6 +8,10 @@ use native.Mathlib.Omega.{arith}
 use lib.ListN.{length, take, drop}
 use lib.Seq.{take_all}
 use borrow.Author.Tests.{eq-eqb, ne_eqb}
+use Rattle.std.specs.Prelude.{Err, Result}
+use Rattle.refusals.specs.declared.types.Refusal.TheVariants.{ElementTooHigh, UnknownMode, WrongLength, WrongSync}
+use Rattle.polarity.specs.declared.types.Word.{Word}
+use Rattle.refusals.specs.declared.types.Refusal.{Refusal}
 use Rattle.bits.specs.Bits.{value, some_above}
 use Rattle.runs.specs.declared.types.Gathered.{Gathered}
 use Rattle.runs.specs.declared.types.Gathered.TheVariants.{Number}
@@ -15,8 +19,6 @@ use Rattle.runs.specs.Gather.{gathered_of}
 use Rattle.runs.specs.Run.{same}
 use Rattle.runs.proofs.Same.{same_itself, gathered_is, not_gathered}
 use Rattle.modes.specs.Modes.{unknown, rate_at}
-use Rattle.polarity.specs.declared.types.Word.{Word}
-use Rattle.polarity.specs.declared.types.Word.TheVariants.{Refused}
 use Rattle.polarity.specs.Word.{sync_word, odd_zeros, miscorrected}
 use Rattle.polarity.specs.Heard.{heard_of}
 use Rattle.ltc.specs.Calls.{read_of}
@@ -27,12 +29,12 @@ abbrev Another : Gathered → Type 0
 Another answer = (n : ℕ) → answer ≡ Number n → ⊥
 
 module _ (mode : ℕ) (word : List ℕ) where
-  pub wrong_size : (length word ≡ 80 → ⊥) → Refused 1 ≡ read_of mode word
+  pub wrong_size : (length word ≡ 80 → ⊥) → Err WrongLength ≡ read_of mode word
   unfolding read_of
   wrong_size other = rw (ne_eqb (length word) 80 other)
 
   module _ (long : length word ≡ 80) where
-    pub no_mode : (past : Bool) → past ≡ unknown mode → past ≡ true → Refused 2 ≡ read_of mode word
+    pub no_mode : (past : Bool) → past ≡ unknown mode → past ≡ true → Err UnknownMode ≡ read_of mode word
     unfolding read_of
     no_mode past asked e = rw (eq-eqb (length word) 80 long, ← asked, e)
 
@@ -45,13 +47,13 @@ module _ (mode : ℕ) (word : List ℕ) where
       high_part : take 16 (drop 64 word) ≡ drop 64 word
       high_part = take_all 16 (drop 64 word) (omega (arith, high_length word long))
 
-      pub no_bit_low : Another low → Refused 3 ≡ read_of mode word
+      pub no_bit_low : Another low → Err ElementTooHigh ≡ read_of mode word
       unfolding read_of
       no_bit_low e =
           let above = not_gathered (take 64 word) (omega (arith, low_length word long)) (λ n is. e n (first ∙ is)) in
           rw (eq-eqb (length word) 80 long, known, above_in_parts word long, above)
 
-      pub no_bit_high : Another high → Refused 3 ≡ read_of mode word
+      pub no_bit_high : Another high → Err ElementTooHigh ≡ read_of mode word
       unfolding read_of
       no_bit_high e =
           let above = not_gathered (drop 64 word) (omega (arith, high_length word long)) (λ n is. e n (last ∙ ap gathered_of high_part ∙ is)) in
@@ -67,7 +69,7 @@ module _ (mode : ℕ) (word : List ℕ) where
         clean : some_above 1 word ≡ false
         clean = above_in_parts word long ∙ rw (low_is.0, high_is.0)
 
-        pub another_sync : (sync ≡ 0xbffc → ⊥) → Refused 4 ≡ read_of mode word
+        pub another_sync : (sync ≡ 0xbffc → ⊥) → Err WrongSync ≡ read_of mode word
         unfolding read_of
         another_sync other =
             rw (
@@ -77,7 +79,7 @@ module _ (mode : ℕ) (word : List ℕ) where
               other_sync word long low_is.0 high_is.0 (λ e. other (high_is.1 ∙ e)),
             )
 
-        pub heard : sync ≡ 0xbffc → (w : Word) → w ≡ heard_of mode info → w ≡ read_of mode word
+        pub heard : sync ≡ 0xbffc → (w : Result Word Refusal) → w ≡ heard_of mode info → w ≡ read_of mode word
         unfolding read_of heard_of
         heard e w told =
             let whole = word_is word long low_is.0 high_is.0 (sym high_is.1 ∙ e) in

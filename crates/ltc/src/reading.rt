@@ -4,27 +4,28 @@ ghost use Rattle.ltc.specs.Calls.{read_of};
 
 use polarity::Word;
 use runs::Gathered;
+use refusals::Refusal;
 
-pub fn read(mode: u8, word: &[u8]) -> Word
+pub fn read(mode: u8, word: &[u8]) -> Result<Word, Refusal>
     ensures { result ≡ read_of mode word.now }
 {
     if word.len() != 80 {
-        return Word::Refused(refusals::WRONG_LENGTH);
+        return Err(Refusal::WrongLength);
     }
     let unknown = modes::is_unknown(mode);
     if unknown {
-        return Word::Refused(refusals::UNKNOWN_MODE);
+        return Err(Refusal::UnknownMode);
     }
     let low = runs::gather(&word[0..64]);
     let high = runs::gather(&word[64..80]);
     let Gathered::Number(info) = low else {
-        return Word::Refused(refusals::ELEMENT_TOO_HIGH);
+        return Err(Refusal::ElementTooHigh);
     };
     let Gathered::Number(sync) = high else {
-        return Word::Refused(refusals::ELEMENT_TOO_HIGH);
+        return Err(Refusal::ElementTooHigh);
     };
     if sync != 0xbffc {
-        return Word::Refused(refusals::WRONG_SYNC);
+        return Err(Refusal::WrongSync);
     }
     polarity::read_info(mode, info)
 }

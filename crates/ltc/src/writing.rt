@@ -4,11 +4,11 @@ ghost use Rattle.layout.specs.Flags.{places};
 ghost use Rattle.polarity.specs.Word.{word_with, made};
 ghost use Rattle.ltc.specs.Calls.{written_of, run_of};
 
-use modes::{Rated, Shows};
+use modes::Shows;
 use polarity::{Found, has_odd_zeros};
 use rates::Rate;
-use record::{Packed, Record};
-use runs::Written;
+use record::Record;
+use refusals::Refusal;
 
 // The 80 elements of a word.
 fn store(info: u64, word: &mut [u8])
@@ -36,29 +36,29 @@ fn made(rate: Rate, make: Found, clear: u64) -> u64
     }
 }
 
-pub fn write(mode: u8, r: Record, make: Found, start: usize, run: &mut [u8]) -> Written
+pub fn write(mode: u8, r: Record, make: Found, start: usize, run: &mut [u8]) -> Result<(), Refusal>
     ensures { (result ≡ written_of mode r start run.old) × (run.new ≡ run_of mode r make start run.old) }
 {
     let flags = r.flags;
     let mark = flags.mark;
-    let Rated::Known(rate) = modes::rate_of(mode) else {
-        return Written::Refused(refusals::UNKNOWN_MODE);
+    let Ok(rate) = modes::rate_of(mode) else {
+        return Err(Refusal::UnknownMode);
     };
     let packed = modes::picture_to_bits(mode, Shows::First, r);
     match packed {
-        Packed::Refused(number) => Written::Refused(number),
-        Packed::Bits(clear) => {
+        Err(number) => Err(number),
+        Ok(clear) => {
             // 11 as well: a second picture was refused by it above, and a mark is here
             if rates::is_yes(mark) {
-                return Written::Refused(refusals::MARK_SET);
+                return Err(Refusal::MarkSet);
             }
             if runs::lacks_room(80, start, run.len()) {
-                return Written::Refused(refusals::NO_ROOM);
+                return Err(Refusal::NoRoom);
             }
             let info = made(rate, make, clear);
             let end = start + 80;
             store(info, &mut run[start..end]);
-            Written::Done
+            Ok(())
         }
     }
 }

@@ -6,16 +6,17 @@ use mathlib.Core.Path.{◌≡◌, refl, sym, ap, ◌∙◌}
 use mathlib.Core.Bool.{Bool, true, false, not, ◌&&◌, true≢false}
 use native.Mathlib.Omega.{arith}
 use lib.Dec.{lit<}
-use Rattle.refusals.specs.Table.{outside_the_clock, skipped_address, unused_bit_set}
+use Rattle.refusals.specs.declared.types.Refusal.{Refusal}
+use Rattle.std.specs.Prelude.{Err, Ok, Result}
+use Rattle.refusals.specs.declared.types.Refusal.TheVariants.{OutsideTheClock, SkippedAddress, UnusedBitSet}
 use Rattle.refusals.proofs.ByNumber.{clear_at}
-use Rattle.refusals.proofs.Answered.{Clear, neither, accepted_as}
+use Rattle.refusals.proofs.Answered.{Clear, neither}
+use Rattle.refusals.proofs.Results.{accepted_so}
 use Rattle.rates.specs.declared.types.Rate.{Rate}
 use Rattle.rates.specs.declared.types.Rate.TheVariants.{At24, At25, At30}
 use Rattle.rates.specs.declared.types.Flag.{Flag}
 use Rattle.rates.specs.declared.types.Address.{Address}
 use Rattle.clock.specs.declared.types.DayFrame.{DayFrame}
-use Rattle.clock.specs.declared.types.Numbered.{Numbered}
-use Rattle.clock.specs.declared.types.Numbered.TheVariants.{Number, Refused as Unnumbered}
 use Rattle.rates.specs.Rates.{is_yes, frames_in_second, frames_in_day, may_drop}
 use Rattle.rates.specs.Face.{outside, skipped}
 use Rattle.clock.specs.Counting.{day_of, count_of}
@@ -38,14 +39,6 @@ counts At25 false allowed = record { way = plain 25 (lit< tt); day = refl; nine 
 counts At30 true allowed = record { way = drops; day = refl; nine = λ skip. refl }
 counts At30 false allowed = record { way = plain 30 (lit< tt); day = refl; nine = λ skip. refl }
 
--- what an answer holds, and that it is no refusal
-number_in : Numbered → ℕ
-number_in (Number n) = n.0
-number_in (Unnumbered n) = n
-
-pub no_number : {n : DayFrame} (k : ℕ) → Unnumbered k ≡ Number n → ⊥
-no_number k e = let z : ◌≡◌ {A = ℕ} 0 1 = cc in omega arith
-
 module _ (rate : Rate) (drop : Flag) where
   -- where an address is clear of refusals, the rate counts and the clock shows it
   pub clear_address :
@@ -53,8 +46,8 @@ module _ (rate : Rate) (drop : Flag) where
       → Counts rate (is_yes drop) × (turned_away (frames_in_second rate) (is_yes drop) a ≡ false)
   clear_address a clear =
       let rows = refusals_of rate drop a in
-      let kind = counts rate (is_yes drop) (clear_at unused_bit_set rows clear) in
-      (kind, rw (clear_at outside_the_clock rows clear) (sym (kind.nine (skipped a)) ∙ clear_at skipped_address rows clear))
+      let kind = counts rate (is_yes drop) (clear_at UnusedBitSet rows clear) in
+      (kind, rw (clear_at OutsideTheClock rows clear) (sym (kind.nine (skipped a)) ∙ clear_at SkippedAddress rows clear))
 
   pub address_clear :
       (a : Address) → (is_yes drop && not (may_drop rate)) ≡ false
@@ -65,9 +58,9 @@ module _ (rate : Rate) (drop : Flag) where
       (tests.0, (kind.nine (skipped a) ∙ tests.1, (allowed, tt)))
 
   -- an address that has a number is clear of refusals, and that is its number
-  pub numbered : (a : Address) (n : DayFrame) → number_of rate drop a ≡ Number n
+  pub numbered : (a : Address) (n : DayFrame) → number_of rate drop a ≡ Ok n
       → Clear (refusals_of rate drop a) × (count_of (frames_in_second rate) (is_yes drop) a ≡ n.0)
-  unfolding number_of number_in
+  unfolding number_of
   numbered a n e =
-      let taken = accepted_as Unnumbered _ (refusals_of rate drop a) (Number n) no_number e in
-      (taken.0, ap number_in taken.1)
+      let taken = accepted_so (refusals_of rate drop a) e in
+      (taken.0, ap (λ (m : DayFrame). m.0) taken.1)

@@ -6,7 +6,10 @@ use mathlib.Core.Bool.{Bool, true, false, not, ◌&&◌, ◌||◌, cond}
 use mathlib.Core.List.{[]}
 use native.Mathlib.Omega.{arith}
 use lib.Dec.{ltb}
-use Rattle.refusals.specs.Table.{unknown_mode, outside_the_clock, unused_bit_set}
+use Rattle.refusals.specs.declared.types.Refusal.TheVariants.{OutsideTheClock, UnknownMode, UnusedBitSet}
+use Rattle.refusals.specs.declared.types.Refusal.{Refusal}
+use Rattle.std.specs.Prelude.{Err, Ok, Result}
+use Rattle.modes.specs.declared.types.HighRate.{HighRate}
 use Rattle.refusals.proofs.Answered.{Clear, neither, accepted_as}
 use Rattle.refusals.proofs.ByNumber.{clear_at}
 use Rattle.rates.specs.declared.types.Rate.{Rate}
@@ -16,10 +19,6 @@ use Rattle.layout.specs.Flags.{unused_colour}
 use Rattle.record.specs.Record.{fields_of, info_of, group_above_15, at_place}
 use Rattle.record.specs.Calls.{write_refusals, packed_of}
 use Rattle.record.proofs.Accepted.{Writable, writable}
-use Rattle.modes.specs.declared.types.Rated.{Rated}
-use Rattle.modes.specs.declared.types.Rated.TheVariants.{Known, Refused}
-use Rattle.modes.specs.declared.types.Rowed.{Rowed}
-use Rattle.modes.specs.declared.types.Rowed.TheVariants.{Known as Row, Refused as Rowless}
 use Rattle.modes.specs.Modes.{unknown, high_rate, rate_at, pictures_at, with_mode, rated_of, high_row_of}
 use Rattle.modes.specs.Calls.{write_refusals_in, packed_in}
 use Rattle.modes.specs.AtRate.{place_left, at_rate}
@@ -49,13 +48,13 @@ module _ (mode : ℕ) (r : Record) where
   module _ (clear : Clear (write_refusals_in mode r)) where
     pub place_inside : place_outside (pictures_at mode) r.place ≡ false
     place_inside =
-        let eight = neither (place_outside (pictures_at mode) r.place || group_above_15 r.groups) _ (clear_at outside_the_clock (write_refusals_in mode r) clear) in
+        let eight = neither (place_outside (pictures_at mode) r.place || group_above_15 r.groups) _ (clear_at OutsideTheClock (write_refusals_in mode r) clear) in
         (neither (place_outside (pictures_at mode) r.place) (group_above_15 r.groups) eight.0).0
 
     pub place_used : place_unused (pictures_at mode) r.place ≡ false
     place_used =
         let colour = unused_colour (rate_at mode) r.flags.colour in
-        let ten = neither (place_unused (pictures_at mode) r.place || colour) _ (clear_at unused_bit_set (write_refusals_in mode r) clear) in
+        let ten = neither (place_unused (pictures_at mode) r.place || colour) _ (clear_at UnusedBitSet (write_refusals_in mode r) clear) in
         (neither (place_unused (pictures_at mode) r.place) colour ten.0).0
 
     pub clear_at_rate : Clear (write_refusals (rate_at mode) (at_rate (pictures_at mode) r))
@@ -66,50 +65,50 @@ module _ (mode : ℕ) (r : Record) where
     fits_of = writable (rate_at mode) (at_rate (pictures_at mode) r) clear_at_rate
 
 -- a rate, or a row, that was told is the mode's own, and the mode is one of those that are asked for; a mode that was refused is not
-rate_in : Rate → Rated → Rate
-rate_in other (Known rate) = rate
-rate_in other (Refused n) = other
+rate_in : Rate → Result Rate Refusal → Rate
+rate_in other (Ok rate) = rate
+rate_in other (Err n) = other
 
-module _ (mode : ℕ) (told : Rated) (asked : told ≡ rated_of mode) where
-  pub rate_told : (rate : Rate) → told ≡ Known rate → (unknown mode ≡ false) × (rate_at mode ≡ rate)
+module _ (mode : ℕ) (told : Result Rate Refusal) (asked : told ≡ rated_of mode) where
+  pub rate_told : (rate : Rate) → told ≡ Ok rate → (unknown mode ≡ false) × (rate_at mode ≡ rate)
   unfolding rated_of rate_in
   rate_told rate e =
-      let taken = accepted_as Refused (Known (rate_at mode)) (with_mode mode []) (Known rate) apart (sym asked ∙ e) in
+      let taken = accepted_as Err (Ok (rate_at mode)) (with_mode mode []) (Ok rate) apart (sym asked ∙ e) in
       (taken.0.0, ap (rate_in rate) taken.1)
     where
-      apart : (n : ℕ) → Refused n ≡ Known rate → ⊥
+      apart : (n : Refusal) → Err n ≡ Ok rate → ⊥
       apart n same = let z : ◌≡◌ {A = ℕ} 0 1 = cc in omega arith
 
-  pub rate_refused : (n : ℕ) → told ≡ Refused n → (unknown mode ≡ true) × (n ≡ unknown_mode)
+  pub rate_refused : (n : Refusal) → told ≡ Err n → (unknown mode ≡ true) × (n ≡ UnknownMode)
   unfolding rated_of
   rate_refused n e = go (unknown mode) refl
     where
-      go : (t : Bool) → unknown mode ≡ t → (unknown mode ≡ true) × (n ≡ unknown_mode)
-      go true t = let two : Refused n ≡ Refused 2 = sym e ∙ asked ∙ rw t in (t, cc)
+      go : (t : Bool) → unknown mode ≡ t → (unknown mode ≡ true) × (n ≡ UnknownMode)
+      go true t = let two : Err n ≡ Err UnknownMode = sym e ∙ asked ∙ rw t in (t, cc)
       go false t =
-          let other : Refused n ≡ Known (rate_at mode) = sym e ∙ asked ∙ rw t in
+          let other : Err n ≡ Ok (rate_at mode) = sym e ∙ asked ∙ rw t in
           let z : ◌≡◌ {A = ℕ} 0 1 = cc in absurd (omega arith)
 
-module _ (mode : ℕ) (told : Rowed) (asked : told ≡ high_row_of mode) where
-  pub row_told : (rate : Rate) (last : ℕ) → told ≡ Row rate last → (high_rate mode ≡ true) × ((rate_at mode ≡ rate) × (last + 1 ≡ pictures_at mode))
+module _ (mode : ℕ) (told : Result HighRate Refusal) (asked : told ≡ high_row_of mode) where
+  pub row_told : (rate : Rate) (last : ℕ) → told ≡ Ok (high_row rate last) → (high_rate mode ≡ true) × ((rate_at mode ≡ rate) × (last + 1 ≡ pictures_at mode))
   unfolding high_row_of
   row_told rate last e = go (high_rate mode) refl
     where
       go : (t : Bool) → high_rate mode ≡ t → (high_rate mode ≡ true) × ((rate_at mode ≡ rate) × (last + 1 ≡ pictures_at mode))
       go true t =
-          let own : Row rate last ≡ Row (rate_at mode) (pictures_at mode - 1) = sym e ∙ asked ∙ rw t in
+          let own : Ok (high_row rate last) ≡ Ok (high_row (rate_at mode) (pictures_at mode - 1)) = sym e ∙ asked ∙ rw t in
           let place : last ≡ pictures_at mode - 1 = cc in
           (t, (cc, omega (arith, some_picture mode)))
       go false t =
-          let other : Row rate last ≡ Rowless 2 = sym e ∙ asked ∙ rw t in
+          let other : Ok (high_row rate last) ≡ Err UnknownMode = sym e ∙ asked ∙ rw t in
           let z : ◌≡◌ {A = ℕ} 0 1 = cc in absurd (omega arith)
 
-  pub row_refused : (n : ℕ) → told ≡ Rowless n → high_rate mode ≡ false
+  pub row_refused : (n : Refusal) → told ≡ Err n → high_rate mode ≡ false
   unfolding high_row_of
   row_refused n e = go (high_rate mode) refl
     where
       go : (t : Bool) → high_rate mode ≡ t → high_rate mode ≡ false
       go true t =
-          let other : Rowless n ≡ Row (rate_at mode) (pictures_at mode - 1) = sym e ∙ asked ∙ rw t in
+          let other : Err n ≡ Ok (high_row (rate_at mode) (pictures_at mode - 1)) = sym e ∙ asked ∙ rw t in
           let z : ◌≡◌ {A = ℕ} 0 1 = cc in absurd (omega arith)
       go false t = t

@@ -4,17 +4,14 @@ use Prim.Native.Nat.{ℕ}
 use mathlib.Core.Path.{◌≡◌, refl}
 use mathlib.Core.Bool.{true}
 use lib.IntN.{ℤ}
+use Rattle.std.specs.Prelude.{Err, Ok}
 use Rattle.refusals.specs.Table.{the_order}
 use Rattle.refusals.specs.Answer.{answer, in_order}
 use Rattle.rates.specs.declared.types.Flag.{Flag}
 use Rattle.clock.specs.declared.types.DayFrame.{DayFrame}
-use Rattle.clock.specs.declared.types.Numbered.TheVariants.{Number, Refused as Unnumbered}
-use Rattle.clock.specs.declared.types.Span.TheVariants.{Frames, Refused as Unmeasured}
 use Rattle.rates.specs.Rates.{is_yes, frames_in_second}
 use Rattle.round.specs.Round.{distance_of, sum_of}
 use Rattle.pictures.specs.declared.types.Picture.{Picture}
-use Rattle.pictures.specs.declared.types.Pictured.TheVariants.{At, Refused as Unpictured}
-use Rattle.pictures.specs.declared.types.InSecond.TheVariants.{Number as Counted, Refused as Uncounted}
 use Rattle.pictures.specs.Pictures.{pictures_in_day, picture_number, number_in_second, picture_at}
 use Rattle.pictures.specs.Calls.{picture_refusals, two_refusals, number_refusals, number_of, in_second_of, picture_of, fields_of, span_of, plus_of}
 use Rattle.record.specs.declared.types.Record.{Record}
@@ -36,38 +33,38 @@ module _ (mode : ℕ) (drop : Flag) where
   -- the calls that count, each as one list
   pub number_rows :
       (p : Picture)
-      → number_in mode drop p ≡ answer Unnumbered (with_counting mode (picture_refusals (rate_at mode) (pictures_at mode) drop p)) (Number (record { 0 = number p }))
+      → number_in mode drop p ≡ answer Err (with_counting mode (picture_refusals (rate_at mode) (pictures_at mode) drop p)) (Ok (record { 0 = number p }))
   unfolding number_in number_of
   number_rows p = refl
 
   pub in_second_rows :
       (p : Picture)
       → in_second_in mode drop p
-      ≡ answer Uncounted (with_counting mode (picture_refusals (rate_at mode) (pictures_at mode) drop p)) (Counted (record { 0 = number_in_second (pictures_at mode) p }))
+      ≡ answer Err (with_counting mode (picture_refusals (rate_at mode) (pictures_at mode) drop p)) (Ok (record { 0 = number_in_second (pictures_at mode) p }))
   unfolding in_second_in in_second_of
   in_second_rows p = refl
 
   pub picture_rows :
       (n : DayFrame)
-      → picture_in mode drop n ≡ answer Unpictured (with_counting mode (number_refusals (rate_at mode) (pictures_at mode) drop n.0)) (At (numbered n.0))
+      → picture_in mode drop n ≡ answer Err (with_counting mode (number_refusals (rate_at mode) (pictures_at mode) drop n.0)) (Ok (numbered n.0))
   unfolding picture_in picture_of
   picture_rows n = refl
 
-  pub fields_rows : (p : Picture) → fields_in mode drop p ≡ answer Unpictured (with_counting mode (picture_refusals (rate_at mode) (pictures_at mode) drop p)) (At p)
+  pub fields_rows : (p : Picture) → fields_in mode drop p ≡ answer Err (with_counting mode (picture_refusals (rate_at mode) (pictures_at mode) drop p)) (Ok p)
   unfolding fields_in fields_of
   fields_rows p = refl
 
   pub span_rows :
       (from to : Picture)
       → span_in mode drop from to
-      ≡ answer Unmeasured (with_counting mode (two_refusals (rate_at mode) (pictures_at mode) drop from to)) (Frames (distance_of day (number from) (number to)))
+      ≡ answer Err (with_counting mode (two_refusals (rate_at mode) (pictures_at mode) drop from to)) (Ok (distance_of day (number from) (number to)))
   unfolding span_in span_of
   span_rows from to = refl
 
   pub plus_rows :
       (p : Picture) (z : ℤ)
       → plus_in mode drop p z
-      ≡ answer Unpictured (with_counting mode (picture_refusals (rate_at mode) (pictures_at mode) drop p)) (At (numbered (sum_of day (number p) z)))
+      ≡ answer Err (with_counting mode (picture_refusals (rate_at mode) (pictures_at mode) drop p)) (Ok (numbered (sum_of day (number p) z)))
   unfolding plus_in plus_of
   plus_rows p z = refl
 

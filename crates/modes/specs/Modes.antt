@@ -1,15 +1,13 @@
 -- "Modes are numbers: 0 is 24 frames, 1 is 25, 2 is 30", and document 02, A4: "Modes 3, 4 and 5 are 48, 50 and 60, with the flag places and drop rules of modes 0, 1
 -- and 2", and A6: "Modes 6 to 10 are 72, 96, 100, 24x5 and 30x4 .., for counting and packets only": the table of modes, and the one place where a mode is unknown.
 -- Assumes nothing.
-use Rattle.std.specs.Prelude.{ℕ, zero, suc, ◌-◌, Bool, not, ◌&&◌, List, [], ◌∷◌, ◌++◌, leb, length}
-use Rattle.refusals.specs.Table.{unknown_mode}
-use Rattle.refusals.specs.Answer.{Refusal, ◌when◌, answer}
+use Rattle.refusals.specs.declared.types.Refusal.TheVariants.{UnknownMode}
+use Rattle.refusals.specs.declared.types.Refusal.{Refusal}
+use Rattle.modes.specs.declared.types.HighRate.{HighRate}
+use Rattle.std.specs.Prelude.{ℕ, zero, suc, ◌-◌, Bool, not, ◌&&◌, List, [], ◌∷◌, ◌++◌, leb, length, Err, Ok, Result}
+use Rattle.refusals.specs.Answer.{Cause, ◌when◌, answer}
 use Rattle.rates.specs.declared.types.Rate.{Rate}
 use Rattle.rates.specs.declared.types.Rate.TheVariants.{At24, At25, At30}
-use Rattle.modes.specs.declared.types.Rated.{Rated}
-use Rattle.modes.specs.declared.types.Rated.TheVariants.{Known, Refused}
-use Rattle.modes.specs.declared.types.Rowed.{Rowed}
-use Rattle.modes.specs.declared.types.Rowed.TheVariants.{Known as KnownRow, Refused as Rowless}
 
 infix 20 ◌by◌
 -- a row: the rate at which addresses count, and how many pictures share an address
@@ -54,20 +52,20 @@ unfoldable pub pictures_at : ℕ → ℕ
 pictures_at mode = (row_of (table ++ high_rates) mode).pictures
 
 -- 2 comes before whatever the rate refuses: on the lines, and elsewhere
-abbrev pub with_mode : ℕ → List Refusal → List Refusal
-with_mode mode rows = (unknown_mode when unknown mode) ∷ rows
+abbrev pub with_mode : ℕ → List Cause → List Cause
+with_mode mode rows = (UnknownMode when unknown mode) ∷ rows
 
-abbrev pub with_counting : ℕ → List Refusal → List Refusal
-with_counting mode rows = (unknown_mode when uncounted mode) ∷ rows
+abbrev pub with_counting : ℕ → List Cause → List Cause
+with_counting mode rows = (UnknownMode when uncounted mode) ∷ rows
 
 -- a call that counts by mode: 2, and else what the call answers by the mode's row
 abbrev pub in_mode : {A : Type 0} → (ℕ → A) → ℕ → (Rate → ℕ → A) → A
 in_mode refused mode call = answer refused (with_counting mode []) (call (rate_at mode) (pictures_at mode))
 
 -- 2, or the rate of a mode that the lines know
-unfoldable pub rated_of : ℕ → Rated
-rated_of mode = answer Refused (with_mode mode []) (Known (rate_at mode))
+unfoldable pub rated_of : ℕ → Result Rate Refusal
+rated_of mode = answer Err (with_mode mode []) (Ok (rate_at mode))
 
 -- 2, or the row of a high frame rate: its rate, and the place of the last picture that shares an address
-unfoldable pub high_row_of : ℕ → Rowed
-high_row_of mode = answer Rowless ((unknown_mode when not (high_rate mode)) ∷ []) (KnownRow (rate_at mode) (pictures_at mode - 1))
+unfoldable pub high_row_of : ℕ → Result HighRate Refusal
+high_row_of mode = answer Err ((UnknownMode when not (high_rate mode)) ∷ []) (Ok (high_row (rate_at mode) (pictures_at mode - 1)))

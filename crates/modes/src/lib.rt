@@ -18,4 +18,4 @@ pub use counting::{add, distance, number_in_second, number_of, picture_from, pic
 pub use packing::{from_bits, to_bits};
 pub use showing::{picture_from_bits, picture_to_bits};
 pub use table::{high_row_of, is_high_rate, is_uncounted, is_unknown, rate_of};
-pub use types::{Rated, Rowed, Shows};
+pub use types::Shows;

@@ -5,13 +5,14 @@ ghost use Rattle.modes.specs.Calls.{unpacked_in, packed_in};
 ghost use Rattle.modes.specs.AtRate.{place_left};
 
 use crate::table::{is_unknown, last_place, rate_at};
-use record::{Packed, Record, Unpacked};
+use record::Record;
+use refusals::Refusal;
 
-pub fn from_bits(mode: u8, info: u64) -> Unpacked
+pub fn from_bits(mode: u8, info: u64) -> Result<Record, Refusal>
     ensures { result ≡ unpacked_in mode info }
 {
     if is_unknown(mode) {
-        return Unpacked::Refused(refusals::UNKNOWN_MODE);
+        return Err(Refusal::UnknownMode);
     }
     record::from_bits(rate_at(mode), info)
 }
@@ -41,15 +42,15 @@ fn place_left(last: u8, place: u8) -> u8
     0
 }
 
-pub fn to_bits(mode: u8, r: Record) -> Packed
+pub fn to_bits(mode: u8, r: Record) -> Result<u64, Refusal>
     ensures { result ≡ packed_in mode r }
 {
     if is_unknown(mode) {
-        return Packed::Refused(refusals::UNKNOWN_MODE);
+        return Err(Refusal::UnknownMode);
     }
     let last = last_place(mode);
     if pictures::is_place_outside(last, r.place) {
-        return Packed::Refused(refusals::OUTSIDE_THE_CLOCK);
+        return Err(Refusal::OutsideTheClock);
     }
     let place = place_left(last, r.place);
     record::to_bits(rate_at(mode), at_place(place, r))

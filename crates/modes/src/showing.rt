@@ -6,7 +6,8 @@ use crate::packing::{at_place, from_bits, to_bits};
 use crate::table::last_place;
 use crate::types::Shows;
 use rates::{Flag, is_yes};
-use record::{Packed, Record, Unpacked};
+use record::Record;
+use refusals::Refusal;
 
 fn place_shown(mode: u8, shows: Shows, mark: Flag) -> u8
     ensures { result ≡ place_shown mode shows mark }
@@ -25,16 +26,16 @@ fn place_shown(mode: u8, shows: Shows, mark: Flag) -> u8
     }
 }
 
-pub fn picture_from_bits(mode: u8, shows: Shows, info: u64) -> Unpacked
+pub fn picture_from_bits(mode: u8, shows: Shows, info: u64) -> Result<Record, Refusal>
     ensures { result ≡ shown_in mode shows info }
 {
     let held = from_bits(mode, info);
     match held {
-        Unpacked::Refused(number) => Unpacked::Refused(number),
-        Unpacked::Holds(r) => {
+        Err(number) => Err(number),
+        Ok(r) => {
             let flags = r.flags;
             let mark = flags.mark;
-            Unpacked::Holds(at_place(place_shown(mode, shows, mark), r))
+            Ok(at_place(place_shown(mode, shows, mark), r))
         }
     }
 }
@@ -47,17 +48,17 @@ fn is_unshown(mode: u8, shows: Shows, r: Record) -> bool
     !(r.place == place_shown(mode, shows, mark))
 }
 
-pub fn picture_to_bits(mode: u8, shows: Shows, r: Record) -> Packed
+pub fn picture_to_bits(mode: u8, shows: Shows, r: Record) -> Result<u64, Refusal>
     ensures { result ≡ carried_in mode shows r }
 {
     let packed = to_bits(mode, r);
     match packed {
-        Packed::Refused(number) => Packed::Refused(number),
-        Packed::Bits(info) => {
+        Err(number) => Err(number),
+        Ok(info) => {
             if is_unshown(mode, shows, r) {
-                return Packed::Refused(refusals::MARK_SET);
+                return Err(Refusal::MarkSet);
             }
-            Packed::Bits(info)
+            Ok(info)
         }
     }
 }

@@ -2,8 +2,9 @@
 ghost use Rattle.std.specs.Prelude.{◌≡◌, ◌+◌};
 ghost use Rattle.modes.specs.Modes.{rate_at, pictures_at, unknown, uncounted, high_rate, rated_of, high_row_of};
 
-use crate::types::{Rated, Rowed};
+use crate::types::HighRate;
 use rates::Rate;
+use refusals::Refusal;
 
 // How many modes the linear track and the interval line know: the first number that is unknown to them.
 const ON_LINES: u8 = 6;
@@ -64,20 +65,20 @@ pub fn last_place(mode: u8) -> u8
     1
 }
 
-pub fn rate_of(mode: u8) -> Rated
+pub fn rate_of(mode: u8) -> Result<Rate, Refusal>
     ensures { result ≡ rated_of mode }
 {
     if is_unknown(mode) {
-        return Rated::Refused(refusals::UNKNOWN_MODE);
+        return Err(Refusal::UnknownMode);
     }
-    Rated::Known(rate_at(mode))
+    Ok(rate_at(mode))
 }
 
-pub fn high_row_of(mode: u8) -> Rowed
+pub fn high_row_of(mode: u8) -> Result<HighRate, Refusal>
     ensures { result ≡ high_row_of mode }
 {
     if !is_high_rate(mode) {
-        return Rowed::Refused(refusals::UNKNOWN_MODE);
+        return Err(Refusal::UnknownMode);
     }
-    Rowed::Known(rate_at(mode), last_place(mode))
+    Ok(rate_at(mode), last_place(mode))
 }

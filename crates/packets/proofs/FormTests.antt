@@ -6,7 +6,8 @@ use Prim.Native.Nat.{ℕ, ◌%◌}
 use mathlib.Core.List.{List}
 use lib.ListN.{length, get_or, take, drop}
 use borrow.Author.Tests.{eq-eqb, ne_eqb}
-use Rattle.refusals.specs.declared.types.Verdict.TheVariants.{Sound, Refused as Unsound}
+use Rattle.std.specs.Prelude.{Err, Ok}
+use Rattle.refusals.specs.declared.types.Refusal.TheVariants.{ElementTooHigh, LowBitsSet, UnknownMode, WrongCheck, WrongLength, WrongSync}
 use Rattle.refusals.specs.Answer.{verdict_of}
 use Rattle.bits.specs.Bits.{some_above}
 use Rattle.modes.specs.Modes.{uncounted}
@@ -15,38 +16,38 @@ use Rattle.packets.specs.Packet.{is_headed, checksum_of}
 use Rattle.packets.specs.Calls.{form_refusals}
 
 module _ (mode : ℕ) (words : List ℕ) where
-  pub wrong_size : (length words ≡ 23 → ⊥) → Unsound 1 ≡ verdict_of (form_refusals mode words)
+  pub wrong_size : (length words ≡ 23 → ⊥) → Err WrongLength ≡ verdict_of (form_refusals mode words)
   wrong_size other = rw (ne_eqb (length words) 23 other)
 
   module _ (size : length words ≡ 23) (past : Bool) (e2 : past ≡ uncounted mode) where
-    pub no_mode : past ≡ true → Unsound 2 ≡ verdict_of (form_refusals mode words)
+    pub no_mode : past ≡ true → Err UnknownMode ≡ verdict_of (form_refusals mode words)
     no_mode t = rw (eq-eqb (length words) 23 size, ← e2, t)
 
     module _ (known : past ≡ false) (high : Bool) (e3 : high ≡ some_above 1023 words) where
-      pub high_word : high ≡ true → Unsound 3 ≡ verdict_of (form_refusals mode words)
+      pub high_word : high ≡ true → Err ElementTooHigh ≡ verdict_of (form_refusals mode words)
       high_word t = rw (eq-eqb (length words) 23 size, ← e2, known, ← e3, t)
 
       module _ (low : high ≡ false) (headed : Bool) (e4 : headed ≡ is_headed mode words) where
-        pub no_header : not headed ≡ true → Unsound 4 ≡ verdict_of (form_refusals mode words)
+        pub no_header : not headed ≡ true → Err WrongSync ≡ verdict_of (form_refusals mode words)
         no_header t = rw (eq-eqb (length words) 23 size, ← e2, known, ← e3, low, ← e4, t)
 
         module _ (begun : not headed ≡ false) (wrong : Bool) (e5 : wrong ≡ some_word wrong_word (take 16 (drop 6 words))) where
-          pub wrong_word_lem : wrong ≡ true → Unsound 5 ≡ verdict_of (form_refusals mode words)
+          pub wrong_word_lem : wrong ≡ true → Err WrongCheck ≡ verdict_of (form_refusals mode words)
           wrong_word_lem t = rw (eq-eqb (length words) 23 size, ← e2, known, ← e3, low, ← e4, begun, ← e5, t)
 
           module _ (right : wrong ≡ false) (sum : ℕ) (summed : sum ≡ with_opposite (sum9 (take 19 (drop 3 words)) % 512)) where
-            pub wrong_sum : (get_or words 22 0 ≡ sum → ⊥) → Unsound 5 ≡ verdict_of (form_refusals mode words)
+            pub wrong_sum : (get_or words 22 0 ≡ sum → ⊥) → Err WrongCheck ≡ verdict_of (form_refusals mode words)
             unfolding checksum_of
             wrong_sum other =
                 rw (eq-eqb (length words) 23 size, ← e2, known, ← e3, low, ← e4, begun, ← e5, right, ← summed, ne_eqb (get_or words 22 0) sum other)
 
             module _ (same : get_or words 22 0 ≡ sum) (set : Bool) (e6 : set ≡ some_word low_set (take 16 (drop 6 words))) where
-              pub low_bits : set ≡ true → Unsound 6 ≡ verdict_of (form_refusals mode words)
+              pub low_bits : set ≡ true → Err LowBitsSet ≡ verdict_of (form_refusals mode words)
               unfolding checksum_of
               low_bits t =
                   rw (eq-eqb (length words) 23 size, ← e2, known, ← e3, low, ← e4, begun, ← e5, right, ← summed, eq-eqb (get_or words 22 0) sum same, ← e6, t)
 
-              pub all_sound : set ≡ false → Sound ≡ verdict_of (form_refusals mode words)
+              pub all_sound : set ≡ false → Ok tt ≡ verdict_of (form_refusals mode words)
               unfolding checksum_of
               all_sound t =
                   rw (eq-eqb (length words) 23 size, ← e2, known, ← e3, low, ← e4, begun, ← e5, right, ← summed, eq-eqb (get_or words 22 0) sum same, ← e6, t)

@@ -4,7 +4,8 @@ ghost use Rattle.refusals.specs.Answer.{verdict_of};
 ghost use Rattle.packets.specs.Packet.{fifth_word, is_headed};
 ghost use Rattle.packets.specs.Calls.{form_refusals};
 
-use refusals::Verdict;
+use refusals::Refusal;
+
 
 // By the family of the mode.
 pub fn fifth_word(mode: u8) -> u16
@@ -29,30 +30,30 @@ fn is_headed(mode: u8, words: &[u16]) -> bool
 }
 
 // Whether the words have the form of a packet, whatever they carry.
-pub fn judge(mode: u8, words: &[u16]) -> Verdict
+pub fn judge(mode: u8, words: &[u16]) -> Result<(), Refusal>
     ensures { result ≡ verdict_of (form_refusals mode words.now) }
 {
     if words.len() != 23 {
-        return Verdict::Refused(refusals::WRONG_LENGTH);
+        return Err(Refusal::WrongLength);
     }
     if modes::is_uncounted(mode) {
-        return Verdict::Refused(refusals::UNKNOWN_MODE);
+        return Err(Refusal::UnknownMode);
     }
     if words::has_high_word(words) {
-        return Verdict::Refused(refusals::ELEMENT_TOO_HIGH);
+        return Err(Refusal::ElementTooHigh);
     }
     if !is_headed(mode, words) {
-        return Verdict::Refused(refusals::WRONG_SYNC);
+        return Err(Refusal::WrongSync);
     }
     let data = &words[6..22];
     if words::has_wrong_word(data) {
-        return Verdict::Refused(refusals::WRONG_CHECK);
+        return Err(Refusal::WrongCheck);
     }
     if words[22] != words::checksum(&words[3..22]) {
-        return Verdict::Refused(refusals::WRONG_CHECK);
+        return Err(Refusal::WrongCheck);
     }
     if words::has_low_bits(data) {
-        return Verdict::Refused(refusals::LOW_BITS_SET);
+        return Err(Refusal::LowBitsSet);
     }
-    Verdict::Sound
+    Ok(())
 }

@@ -5,7 +5,7 @@ ghost use Rattle.packets.specs.Packet.{header, packet_with};
 ghost use Rattle.packets.specs.Calls.{place_refusals};
 
 use crate::form::fifth_word;
-use runs::Written;
+use refusals::Refusal;
 
 // The first six words, in a mode.
 fn store_header(mode: u8, run: &mut [u16])
@@ -40,17 +40,17 @@ pub fn place(
     second: u8,
     start: usize,
     run: &mut [u16],
-) -> Written
+) -> Result<(), Refusal>
     ensures { (result ≡ written_by (place_refusals mode start run.old))
         × (run.new ≡ run_after (place_refusals mode start run.old) start (packet_with mode info payload_type second) run.old) }
 {
     if modes::is_uncounted(mode) {
-        return Written::Refused(refusals::UNKNOWN_MODE);
+        return Err(Refusal::UnknownMode);
     }
     if runs::lacks_room(23, start, run.len()) {
-        return Written::Refused(refusals::NO_ROOM);
+        return Err(Refusal::NoRoom);
     }
     let end = start + 23;
     store(mode, info, payload_type, second, &mut run[start..end]);
-    Written::Done
+    Ok(())
 }

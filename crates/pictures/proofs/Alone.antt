@@ -5,6 +5,7 @@ use mathlib.Core.Path.{◌≡◌, sym, ◌∙◌}
 use native.Mathlib.Omega.{arith}
 use native.Mathlib.Nat.{div-one, mod-one}
 use lib.IntN.{ℤ}
+use Rattle.std.specs.Prelude.{Err, Ok}
 use Rattle.refusals.proofs.Answered.{carried}
 use Rattle.rates.specs.declared.types.Rate.{Rate}
 use Rattle.rates.specs.declared.types.Flag.{Flag}
@@ -13,7 +14,6 @@ use Rattle.rates.specs.Rates.{is_yes, frames_in_second, frames_in_day}
 use Rattle.rates.specs.Refused.{refusals_of}
 use Rattle.round.specs.Round.{sum_of}
 use Rattle.clock.specs.declared.types.DayFrame.{DayFrame}
-use Rattle.clock.specs.declared.types.Placed.TheVariants.{At as AtAddress, Refused as Unplaced}
 use Rattle.clock.specs.Counting.{count_of, address_at}
 use Rattle.clock.specs.Calls as clock
 use Rattle.pictures.specs.declared.types.Picture.{Picture}
@@ -48,7 +48,7 @@ module _ (rate : Rate) (drop : Flag) where
 
   pub fields_alone : (a : Address) → fields_of rate 1 drop (only a) ≡ with_place 0 (clock.fields_of rate drop a)
   unfolding fields_of clock.fields_of
-  fields_alone a = sym (carried (with_place 0) Unplaced (AtAddress a) (refusals_of rate drop a))
+  fields_alone a = sym (carried (with_place 0) Err (Ok a) (refusals_of rate drop a))
 
   pub span_alone : (a b : Address) → span_of rate 1 drop (only a) (only b) ≡ clock.span_of rate drop a b
   unfolding span_of clock.span_of
@@ -59,4 +59,4 @@ module _ (rate : Rate) (drop : Flag) where
   plus_alone a z =
       let sum = sum_of day (number a) z in
       rw (one_each (number a), one_day day, div-one sum, mod-one sum)
-      (sym (carried (with_place 0) Unplaced (AtAddress (address_at (frames_in_second rate) (is_yes drop) sum)) (refusals_of rate drop a)))
+      (sym (carried (with_place 0) Err (Ok (address_at (frames_in_second rate) (is_yes drop) sum)) (refusals_of rate drop a)))

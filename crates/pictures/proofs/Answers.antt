@@ -6,49 +6,27 @@ use mathlib.Core.Bool.{Bool, true, false, not, ◌&&◌, ◌||◌}
 use mathlib.Core.Logic.{◌↔◌, ◌⊎◌, inl, inr, ⊎_elim}
 use native.Mathlib.Omega.{arith}
 use borrow.Author.Tests.{leb-false, lt-leb}
-use Rattle.refusals.specs.Table.{outside_the_clock, skipped_address, unused_bit_set, number_past_the_day}
+use Rattle.refusals.specs.declared.types.Refusal.{Refusal}
+use Rattle.std.specs.Prelude.{Err, Ok, Result}
+use Rattle.refusals.specs.declared.types.Refusal.TheVariants.{NumberPastTheDay, OutsideTheClock, SkippedAddress, UnusedBitSet}
 use Rattle.refusals.proofs.ByNumber.{clear_at}
-use Rattle.refusals.proofs.Answered.{Clear, otherwise_accepted, accepted_as, carried}
+use Rattle.refusals.proofs.Answered.{Clear, otherwise_accepted}
+use Rattle.refusals.proofs.Results.{not_accepted, accepted_so, refused_alike}
 use Rattle.rates.specs.declared.types.Rate.{Rate}
 use Rattle.rates.specs.declared.types.Flag.{Flag}
 use Rattle.rates.specs.Rates.{is_yes, frames_in_second, may_drop}
 use Rattle.rates.specs.Face.{outside, skipped}
 use Rattle.rates.specs.Refused.{refusals_of}
 use Rattle.clock.specs.declared.types.DayFrame.{DayFrame}
-use Rattle.clock.specs.declared.types.Numbered.{Numbered}
-use Rattle.clock.specs.declared.types.Numbered.TheVariants.{Number, Refused as Unnumbered}
 use Rattle.clock.specs.Counting.{day_of}
-use Rattle.midnight.proofs.Answers.{Counts, counts, clear_address, address_clear, no_number}
+use Rattle.midnight.proofs.Answers.{Counts, counts, clear_address, address_clear}
 use Rattle.midnight.proofs.Shown.{turned_away}
 use Rattle.pictures.specs.declared.types.Picture.{Picture}
-use Rattle.pictures.specs.declared.types.Pictured.{Pictured}
-use Rattle.pictures.specs.declared.types.Pictured.TheVariants.{At, Refused as Unpictured}
 use Rattle.pictures.specs.Pictures.{place_outside, place_unused, pictures_in_day, picture_number, picture_at}
 use Rattle.pictures.specs.Steps.{picture_shown}
 use Rattle.pictures.specs.Calls.{picture_refusals, number_refusals, number_of, picture_of, fields_of}
 use Rattle.pictures.proofs.Sizes.{place_clear, unused_alone, clear_of_picture, place_of_clear}
 use Rattle.pictures.proofs.Shown.{shown_below, number_of_picture, picture_of_number, shown_at_number, shown_only}
-
--- what an answer holds, and that it is no refusal
-number_in : Numbered → ℕ
-number_in (Number n) = n.0
-number_in (Unnumbered n) = n
-
-abbrev pub picture_in : Picture → Pictured → Picture
-picture_in p (At q) = q
-picture_in p (Unpictured n) = p
-
-pub no_picture : {p : Picture} (k : ℕ) → Unpictured k ≡ At p → ⊥
-no_picture k e = let z : ◌≡◌ {A = ℕ} 0 1 = cc in omega arith
-
--- one answer told as the other, a refusal by the same number
-abbrev pub pictured_as : Picture → Numbered → Pictured
-pictured_as p (Number n) = At p
-pictured_as p (Unnumbered n) = Unpictured n
-
-numbered_as : DayFrame → Pictured → Numbered
-numbered_as n (At p) = Number n
-numbered_as n (Unpictured k) = Unnumbered k
 
 -- a picture that is shown
 pub record Sound (rate : Rate) (pictures : ℕ) (drop : Flag) (p : Picture) : Type 0 where
@@ -69,92 +47,88 @@ module _ (rate : Rate) (pictures : ℕ) (drop : Flag) (some : 0 < pictures) wher
       let place = place_clear pictures p.place low in
       let own = refusals_of rate drop p.address in
       let clear = address_clear rate drop p.address allowed stands in
-      (rw place.0 (clear_at outside_the_clock own clear), (clear_at skipped_address own clear, (rw place.1 (clear_at unused_bit_set own clear), tt)))
+      (rw place.0 (clear_at OutsideTheClock own clear), (clear_at SkippedAddress own clear, (rw place.1 (clear_at UnusedBitSet own clear), tt)))
 
   -- what each call says where it accepts
-  pub numbered : (p : Picture) (n : DayFrame) → number_of rate pictures drop p ≡ Number n
+  pub numbered : (p : Picture) (n : DayFrame) → number_of rate pictures drop p ≡ Ok n
       → Clear (picture_refusals rate pictures drop p) × (picture_number (frames_in_second rate) pictures (is_yes drop) p ≡ n.0)
-  unfolding number_of number_in
+  unfolding number_of
   numbered p n e =
-      let taken = accepted_as Unnumbered _ (picture_refusals rate pictures drop p) (Number n) no_number e in
-      (taken.0, ap number_in taken.1)
+      let taken = accepted_so (picture_refusals rate pictures drop p) e in
+      (taken.0, ap (λ (m : DayFrame). m.0) taken.1)
 
-  pictured : (p : Picture) (n : DayFrame) → picture_of rate pictures drop n ≡ At p
+  pictured : (p : Picture) (n : DayFrame) → picture_of rate pictures drop n ≡ Ok p
       → Clear (number_refusals rate pictures drop n.0) × (picture_at (frames_in_second rate) pictures (is_yes drop) n.0 ≡ p)
   unfolding picture_of
-  pictured p n e =
-      let taken = accepted_as Unpictured _ (number_refusals rate pictures drop n.0) (At p) no_picture e in
-      (taken.0, ap (picture_in p) taken.1)
+  pictured p n e = accepted_so (number_refusals rate pictures drop n.0) e
 
   -- "State once, for any number of pictures to an address, that numbers and addresses match one to one"
-  pub one_to_one : (p : Picture) (n : DayFrame) → number_of rate pictures drop p ≡ Number n ↔ picture_of rate pictures drop n ≡ At p
+  pub one_to_one : (p : Picture) (n : DayFrame) → number_of rate pictures drop p ≡ Ok n ↔ picture_of rate pictures drop n ≡ Ok p
   unfolding number_of picture_of
   one_to_one p n = (there, back)
     where
-      there : number_of rate pictures drop p ≡ Number n → picture_of rate pictures drop n ≡ At p
+      there : number_of rate pictures drop p ≡ Ok n → picture_of rate pictures drop n ≡ Ok p
       there e =
           let number = numbered p n e in
           let is = sound p number.0 in
           let found = picture_of_number (frames_in_second rate) pictures (is_yes drop) some is.counts.way p is.stands is.place in
           let low : n.0 < pictures_in_day rate pictures (is_yes drop) = rw (is.counts.day, ← number.1) found.0 in
-          let allowed = clear_at unused_bit_set (refusals_of rate drop p.address) (clear_of_picture rate drop pictures p number.0) in
-          otherwise_accepted Unpictured _ (number_refusals rate pictures drop n.0) (allowed, (lt-leb _ _ low, tt))
-          ∙ ap At (rw (← number.1) found.1)
+          let allowed = clear_at UnusedBitSet (refusals_of rate drop p.address) (clear_of_picture rate drop pictures p number.0) in
+          otherwise_accepted Err _ (number_refusals rate pictures drop n.0) (allowed, (lt-leb _ _ low, tt))
+          ∙ ap Ok (rw (← number.1) found.1)
 
-      back : picture_of rate pictures drop n ≡ At p → number_of rate pictures drop p ≡ Number n
+      back : picture_of rate pictures drop n ≡ Ok p → number_of rate pictures drop p ≡ Ok n
       back e =
           let found = pictured p n e in
           let rows = number_refusals rate pictures drop n.0 in
-          let allowed = clear_at unused_bit_set rows found.0 in
+          let allowed = clear_at UnusedBitSet rows found.0 in
           let kind = counts rate (is_yes drop) allowed in
           let low : n.0 < pictures * day_of (frames_in_second rate) (is_yes drop) =
-          rw (← kind.day) (leb-false _ _ (clear_at number_past_the_day rows found.0)) in
+          rw (← kind.day) (leb-false _ _ (clear_at NumberPastTheDay rows found.0)) in
           let shows : picture_shown (frames_in_second rate) pictures (is_yes drop) n.0 ≡ p = shown_below (frames_in_second rate) pictures (is_yes drop) some kind.way n.0 low ∙ found.1 in
           let is = shown_only (frames_in_second rate) pictures (is_yes drop) some kind.way p n.0 shows in
           let number =
           subst (λ (q : Picture). picture_number (frames_in_second rate) pictures (is_yes drop) q ≡ n.0) found.1
           (number_of_picture (frames_in_second rate) pictures (is_yes drop) some kind.way n.0 low) in
-          otherwise_accepted Unnumbered _ (picture_refusals rate pictures drop p) (clear_picture allowed p is.0 is.1)
-          ∙ ap (λ (k : ℕ). Number (record { 0 = k })) number
+          otherwise_accepted Err _ (picture_refusals rate pictures drop p) (clear_picture allowed p is.0 is.1)
+          ∙ ap (λ (k : ℕ). Ok (record { 0 = k })) number
 
   -- where drop may be asked for, every number below the day's count is answered by what is shown, and that by the number
   module _ (allowed : (is_yes drop && not (may_drop rate)) ≡ false) (n : ℕ) (low : n < pictures_in_day rate pictures (is_yes drop)) where
-    pub picture_is_shown : picture_of rate pictures drop (record { 0 = n }) ≡ At (picture_shown (frames_in_second rate) pictures (is_yes drop) n)
+    pub picture_is_shown : picture_of rate pictures drop (record { 0 = n }) ≡ Ok (picture_shown (frames_in_second rate) pictures (is_yes drop) n)
     unfolding picture_of
     picture_is_shown =
         let kind = counts rate (is_yes drop) allowed in
-        otherwise_accepted Unpictured _ (number_refusals rate pictures drop n) (allowed, (lt-leb _ _ low, tt))
-        ∙ ap At (sym (shown_below (frames_in_second rate) pictures (is_yes drop) some kind.way n (rw kind.day at low)))
+        otherwise_accepted Err _ (number_refusals rate pictures drop n) (allowed, (lt-leb _ _ low, tt))
+        ∙ ap Ok (sym (shown_below (frames_in_second rate) pictures (is_yes drop) some kind.way n (rw kind.day at low)))
 
-    pub number_of_shown : number_of rate pictures drop (picture_shown (frames_in_second rate) pictures (is_yes drop) n) ≡ Number (record { 0 = n })
+    pub number_of_shown : number_of rate pictures drop (picture_shown (frames_in_second rate) pictures (is_yes drop) n) ≡ Ok (record { 0 = n })
     number_of_shown = (one_to_one (picture_shown (frames_in_second rate) pictures (is_yes drop) n) (record { 0 = n })).1 picture_is_shown
 
   -- clock fields and a place make a picture exactly where it has a number, and are refused as it is
-  pub fields_as_number : (p : Picture) (n : ℕ) → number_of rate pictures drop p ≡ Unnumbered n ↔ fields_of rate pictures drop p ≡ Unpictured n
-  unfolding number_of fields_of numbered_as
+  pub fields_as_number : (p : Picture) (n : Refusal) → number_of rate pictures drop p ≡ Err n ↔ fields_of rate pictures drop p ≡ Err n
+  unfolding number_of fields_of
   fields_as_number p n =
-      let number : DayFrame = record { 0 = picture_number (frames_in_second rate) pictures (is_yes drop) p } in
-      let there = carried (pictured_as p) Unnumbered (Number number) (picture_refusals rate pictures drop p) in
-      let back = carried (numbered_as number) Unpictured (At p) (picture_refusals rate pictures drop p) in
-      (λ e. sym there ∙ ap (pictured_as p) e, λ e. sym back ∙ ap (numbered_as number) e)
+      let rows = picture_refusals rate pictures drop p in
+      (refused_alike _ _ rows n, refused_alike _ _ rows n)
 
   -- a picture is turned away exactly where no number of steps, picture by picture, shows it: by 8 or 9, or, where it would have the address to itself and is not the
   -- first, by 10; where drop may be asked for
   abbrev pub TurnedAway : Picture → Type 0
   TurnedAway p =
-      (number_of rate pictures drop p ≡ Unnumbered 8)
-      ⊎ ((number_of rate pictures drop p ≡ Unnumbered 9) ⊎ ((number_of rate pictures drop p ≡ Unnumbered 10) × (pictures ≡ 1) × (0 < p.place)))
+      (number_of rate pictures drop p ≡ Err OutsideTheClock)
+      ⊎ ((number_of rate pictures drop p ≡ Err SkippedAddress) ⊎ ((number_of rate pictures drop p ≡ Err UnusedBitSet) × (pictures ≡ 1) × (0 < p.place)))
 
   pub refused_exactly :
       (is_yes drop && not (may_drop rate)) ≡ false → (p : Picture)
       → TurnedAway p ↔ ((n : ℕ) → picture_shown (frames_in_second rate) pictures (is_yes drop) n ≡ p → ⊥)
   unfolding number_of
-  refused_exactly allowed p = (⊎_elim (away 8) (⊎_elim (away 9) (λ ten. away 10 ten.0)), by_number _ refl _ refl _ refl)
+  refused_exactly allowed p = (⊎_elim (away OutsideTheClock) (⊎_elim (away SkippedAddress) (λ ten. away UnusedBitSet ten.0)), by_number _ refl _ refl _ refl)
     where
-      away : (k : ℕ) → number_of rate pictures drop p ≡ Unnumbered k → (n : ℕ) → picture_shown (frames_in_second rate) pictures (is_yes drop) n ≡ p → ⊥
+      away : (k : Refusal) → number_of rate pictures drop p ≡ Err k → (n : ℕ) → picture_shown (frames_in_second rate) pictures (is_yes drop) n ≡ p → ⊥
       away k refused n shows =
           let is = shown_only (frames_in_second rate) pictures (is_yes drop) some (counts rate (is_yes drop) allowed).way p n shows in
-          no_number k (sym refused ∙ otherwise_accepted Unnumbered _ (picture_refusals rate pictures drop p) (clear_picture allowed p is.0 is.1))
+          not_accepted k (sym refused ∙ otherwise_accepted Err _ (picture_refusals rate pictures drop p) (clear_picture allowed p is.0 is.1))
 
       by_number :
           (o : Bool) → (place_outside pictures p.place || outside (frames_in_second rate) p.address) ≡ o

@@ -7,24 +7,24 @@ use native.Mathlib.Omega.{arith}
 use native.Mathlib.Nat.{div-lt_iff_lt-mul}
 use lib.Dec.{leb}
 use borrow.Author.Tests.{leb-true, leb-false, lt-leb}
+use Rattle.rates.specs.declared.types.Address.{Address}
+use Rattle.refusals.specs.declared.types.Refusal.{Refusal}
+use Rattle.pictures.specs.declared.types.Picture.{Picture}
+use Rattle.std.specs.Prelude.{Err, Ok, Result}
 use Rattle.refusals.proofs.Answered.{carried}
 use Rattle.rates.specs.declared.types.Rate.{Rate}
 use Rattle.rates.specs.declared.types.Flag.{Flag}
 use Rattle.rates.specs.Rates.{is_yes, frames_in_second, frames_in_day}
 use Rattle.clock.specs.declared.types.DayFrame.{DayFrame}
-use Rattle.clock.specs.declared.types.Placed.{Placed}
-use Rattle.clock.specs.declared.types.Placed.TheVariants.{At as AtAddress, Refused as Unplaced}
 use Rattle.clock.specs.Counting.{address_at}
 use Rattle.clock.specs.Calls.{address_of, number_refusals}
-use Rattle.pictures.specs.declared.types.Pictured.{Pictured}
-use Rattle.pictures.specs.declared.types.Pictured.TheVariants.{At, Refused as Unpictured}
 use Rattle.pictures.specs.Pictures.{picture}
 use Rattle.pictures.specs.Calls.{picture_of}
 
 -- what the clock's answer comes to at a place
-abbrev pub with_place : ℕ → Placed → Pictured
-with_place place (AtAddress a) = At (picture a place)
-with_place place (Unplaced n) = Unpictured n
+abbrev pub with_place : ℕ → Result Address Refusal → Result Picture Refusal
+with_place place (Ok a) = Ok (picture a place)
+with_place place (Err n) = Err n
 
 -- a number is past so many pictures of a day exactly where its address is past the day
 past_the_day : (pictures day n : ℕ) → 0 < pictures → leb (pictures * day) n ≡ leb day (n / pictures)
@@ -47,4 +47,4 @@ pub by_address :
 unfolding picture_of address_of
 by_address rate pictures drop n some =
     rw (past_the_day pictures (frames_in_day rate (is_yes drop)) n.0 some)
-    (sym (carried (with_place (n.0 % pictures)) Unplaced (AtAddress (address_at (frames_in_second rate) (is_yes drop) (n.0 / pictures))) (number_refusals rate drop (n.0 / pictures))))
+    (sym (carried (with_place (n.0 % pictures)) Err (Ok (address_at (frames_in_second rate) (is_yes drop) (n.0 / pictures))) (number_refusals rate drop (n.0 / pictures))))

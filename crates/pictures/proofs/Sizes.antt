@@ -7,7 +7,7 @@ use native.Mathlib.Omega.{arith}
 use native.Mathlib.Nat.{mul-le-mul_left, mul-le-mul_right}
 use lib.Dec.{ltb, leb}
 use borrow.Author.Tests.{ltb-true, ltb-false, leb-true, leb-false}
-use Rattle.refusals.specs.Table.{outside_the_clock, skipped_address, unused_bit_set}
+use Rattle.refusals.specs.declared.types.Refusal.TheVariants.{OutsideTheClock, SkippedAddress, UnusedBitSet}
 use Rattle.refusals.proofs.Answered.{Clear, neither}
 use Rattle.refusals.proofs.ByNumber.{clear_at}
 use Rattle.rates.specs.declared.types.Rate.{Rate}
@@ -71,11 +71,11 @@ module _ (rate : Rate) (drop : Flag) where
         × ((place_unused pictures p.place ≡ false) × ((is_yes drop && not (may_drop rate)) ≡ false))
     tests =
         let rows = picture_refusals rate pictures drop p in
-        (neither _ _ (clear_at outside_the_clock rows clear), neither _ _ (clear_at unused_bit_set rows clear))
+        (neither _ _ (clear_at OutsideTheClock rows clear), neither _ _ (clear_at UnusedBitSet rows clear))
 
     -- where a picture is clear of refusals its address is
     pub clear_of_picture : Clear (refusals_of rate drop p.address)
-    clear_of_picture = (tests.0.1, (clear_at skipped_address (picture_refusals rate pictures drop p) clear, (tests.1.1, tt)))
+    clear_of_picture = (tests.0.1, (clear_at SkippedAddress (picture_refusals rate pictures drop p) clear, (tests.1.1, tt)))
 
     pub place_of_clear : 0 < pictures → p.place < pictures
     place_of_clear some = place_below pictures p.place some tests.0.0 tests.1.0

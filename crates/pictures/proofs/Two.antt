@@ -3,7 +3,7 @@
 use Prim.Native.Nat.{ℕ}
 use mathlib.Core.Path.{◌≡◌, refl}
 use mathlib.Core.Bool.{Bool, true, false, not, ◌&&◌, ◌||◌}
-use Rattle.refusals.specs.Table.{outside_the_clock, skipped_address, unused_bit_set}
+use Rattle.refusals.specs.declared.types.Refusal.TheVariants.{OutsideTheClock, SkippedAddress, UnusedBitSet}
 use Rattle.refusals.proofs.Answered.{Clear, neither}
 use Rattle.refusals.proofs.ByNumber.{clear_at}
 use Rattle.rates.specs.declared.types.Rate.{Rate}
@@ -32,11 +32,11 @@ module _ (rate : Rate) (pictures : ℕ) (drop : Flag) (p q : Picture) where
   pub apart : Clear (two_refusals rate pictures drop p q) → Clear (picture_refusals rate pictures drop p) × Clear (picture_refusals rate pictures drop q)
   apart clear =
       let rows = two_refusals rate pictures drop p q in
-      let eight = neither _ _ (clear_at outside_the_clock rows clear) in
+      let eight = neither _ _ (clear_at OutsideTheClock rows clear) in
       let place = neither (place_outside pictures p.place) (place_outside pictures q.place) eight.0 in
       let out = neither (outside (frames_in_second rate) p.address) (outside (frames_in_second rate) q.address) eight.1 in
-      let skip = neither_skipped (may_drop rate) (is_yes drop) (skipped p.address) (skipped q.address) (clear_at skipped_address rows clear) in
-      let ten = neither _ _ (clear_at unused_bit_set rows clear) in
+      let skip = neither_skipped (may_drop rate) (is_yes drop) (skipped p.address) (skipped q.address) (clear_at SkippedAddress rows clear) in
+      let ten = neither _ _ (clear_at UnusedBitSet rows clear) in
       let unused = neither (place_unused pictures p.place) (place_unused pictures q.place) ten.0 in (
         (both_false _ _ place.0 out.0, (skip.0, (both_false _ _ unused.0 ten.1, tt))),
         (both_false _ _ place.1 out.1, (skip.1, (both_false _ _ unused.1 ten.1, tt))),
@@ -47,14 +47,14 @@ module _ (rate : Rate) (pictures : ℕ) (drop : Flag) (p q : Picture) where
   together first second =
       let one = picture_refusals rate pictures drop p in
       let other = picture_refusals rate pictures drop q in
-      let eight = neither (place_outside pictures p.place) (outside (frames_in_second rate) p.address) (clear_at outside_the_clock one first) in
-      let eight' = neither (place_outside pictures q.place) (outside (frames_in_second rate) q.address) (clear_at outside_the_clock other second) in
-      let ten = neither (place_unused pictures p.place) (is_yes drop && not (may_drop rate)) (clear_at unused_bit_set one first) in
-      let ten' = neither (place_unused pictures q.place) (is_yes drop && not (may_drop rate)) (clear_at unused_bit_set other second) in (
+      let eight = neither (place_outside pictures p.place) (outside (frames_in_second rate) p.address) (clear_at OutsideTheClock one first) in
+      let eight' = neither (place_outside pictures q.place) (outside (frames_in_second rate) q.address) (clear_at OutsideTheClock other second) in
+      let ten = neither (place_unused pictures p.place) (is_yes drop && not (may_drop rate)) (clear_at UnusedBitSet one first) in
+      let ten' = neither (place_unused pictures q.place) (is_yes drop && not (may_drop rate)) (clear_at UnusedBitSet other second) in (
         both_false _ _ (both_false _ _ eight.0 eight'.0) (both_false _ _ eight.1 eight'.1),
         (
           both_unskipped (may_drop rate) (is_yes drop) (skipped p.address) (skipped q.address)
-              (clear_at skipped_address one first) (clear_at skipped_address other second),
+              (clear_at SkippedAddress one first) (clear_at SkippedAddress other second),
           (both_false _ _ (both_false _ _ ten.0 ten'.0) ten.1, tt),
         ),
       )

@@ -4,9 +4,9 @@ ghost use Rattle.refusals.specs.Answer.{verdict_of};
 ghost use Rattle.pictures.specs.Pictures.{place_outside, place_unused};
 ghost use Rattle.pictures.specs.Calls.{picture_refusals, two_refusals};
 
-use crate::types::Picture;
-use rates::{Flag, Rate};
-use refusals::Verdict;
+use crate::types::{Counting, Picture};
+use rates::Flag;
+use refusals::Refusal;
 
 pub fn is_place_outside(last: u8, place: u8) -> bool
     ensures { result ≡ place_outside (last + 1) place }
@@ -22,18 +22,21 @@ pub fn is_place_unused(last: u8, place: u8) -> bool
     !(1 < pictures) & (0 < place)
 }
 
-pub fn judge(rate: Rate, last: u8, drop: Flag, p: Picture) -> Verdict
-    ensures { result ≡ verdict_of (picture_refusals rate (last + 1) drop p) }
+pub fn judge(counting: Counting, drop: Flag, p: Picture) -> Result<(), Refusal>
+    ensures { result ≡ verdict_of (picture_refusals counting.rate (counting.last + 1) drop p) }
 {
-    let out = is_place_outside(last, p.place);
-    let unused = is_place_unused(last, p.place);
+    let rate = counting.rate;
+    let out = is_place_outside(counting.last, p.place);
+    let unused = is_place_unused(counting.last, p.place);
     let address = p.address;
     rates::judge(rate, drop, address, out, unused)
 }
 
-pub fn judge_two(rate: Rate, last: u8, drop: Flag, p: Picture, q: Picture) -> Verdict
-    ensures { result ≡ verdict_of (two_refusals rate (last + 1) drop p q) }
+pub fn judge_two(counting: Counting, drop: Flag, p: Picture, q: Picture) -> Result<(), Refusal>
+    ensures { result ≡ verdict_of (two_refusals counting.rate (counting.last + 1) drop p q) }
 {
+    let rate = counting.rate;
+    let last = counting.last;
     let out = is_place_outside(last, p.place) | is_place_outside(last, q.place);
     let unused = is_place_unused(last, p.place) | is_place_unused(last, q.place);
     let first = p.address;

@@ -2,7 +2,7 @@
 //
 // How many pictures share an address is named by the place of the last: so every number names some, and no address is without a picture.
 //
-// types      what a picture and an answer are
+// types      how pictures are counted, and what a picture is
 // judging    what is turned away, for its address or for its place
 // numbers    picture to number, of the day and within its second; the distance from one picture to another
 // finding    number to picture; a picture from clock fields and a place; a picture plus a signed count
@@ -16,4 +16,4 @@ mod types;
 pub use finding::{add, picture_from, picture_of};
 pub use judging::is_place_outside;
 pub use numbers::{distance, number_in_second, number_of};
-pub use types::{InSecond, Picture, PictureInSecond, Pictured};
+pub use types::{Counting, Picture, PictureInSecond};

@@ -1,4 +1,11 @@
-use rates::Address;
+use rates::{Address, Rate};
+
+// How pictures are counted: the rate at which their addresses count, and the place of the last picture that shares an address.
+#[derive(Clone, Copy)]
+pub struct Counting {
+    pub rate: Rate,
+    pub last: u8,
+}
 
 // A picture: the address that it shares with others, and its place among them, 0 the first.
 #[derive(Clone, Copy)]
@@ -11,15 +18,3 @@ pub struct Picture {
 // nor with the frames of an address, which end at 29.
 #[derive(Clone, Copy)]
 pub struct PictureInSecond(pub u16);
-
-#[derive(Clone, Copy)]
-pub enum InSecond {
-    Number(PictureInSecond),
-    Refused(u8),
-}
-
-#[derive(Clone, Copy)]
-pub enum Pictured {
-    At(Picture),
-    Refused(u8),
-}

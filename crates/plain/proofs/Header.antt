@@ -5,6 +5,7 @@ use mathlib.Core.Path.{◌≡◌, refl}
 use mathlib.Core.Bool.{Bool, false, ◌||◌}
 use mathlib.Core.List.{List, [], ◌∷◌}
 use lib.Dec.{eqb}
+use Rattle.std.specs.Prelude.{Ok}
 use Rattle.refusals.specs.Table.{the_order}
 use Rattle.rates.specs.declared.types.Flag.{Flag}
 use Rattle.rates.specs.declared.types.Flag.TheVariants.{No, Yes}
@@ -13,7 +14,6 @@ use Rattle.pictures.specs.Pictures.{picture}
 use Rattle.record.specs.declared.types.Record.{Record}
 use Rattle.polarity.specs.declared.types.Found.TheVariants.{Corrected, Uncorrected}
 use Rattle.atc.specs.declared.types.Interface.TheVariants.{Lines525, Lines625, HighDefinition}
-use Rattle.atc.specs.declared.types.Packet.TheVariants.{Holds}
 use Rattle.hearing.specs.declared.types.Way.TheVariants.{Forward, Backward}
 use Rattle.hearing.specs.declared.types.Heard.TheVariants.{Accepted}
 use Rattle.register.specs.declared.types.Ways.TheVariants.{ForwardOnly, Both}
@@ -103,7 +103,7 @@ reader_by_name = refl
 
 -- what a packet carries, and zeros beside a refusal
 pub contents_by_name :
-    packet_answer (Holds (record { «record» = sample; payload_type = 1; second = 2 }))
+    packet_answer (Ok (record { «record» = sample; payload_type = 1; second = 2 }))
     ≡ record { code = 100; contents = record { «record» = plain_sample; payload_type = 1; second = 2 } }
 unfolding record_shown
 contents_by_name = refl

@@ -1,23 +1,14 @@
 -- "an answer has a code: 0 done or nothing, a refusal's own number, 100 accepted; one convention for all calls", and what stands beside the code: zeros on a refusal, and
 -- where a reader answers nothing.
 -- Assumes nothing.
-use Rattle.std.specs.Prelude.{ℕ, pos}
-use Rattle.clock.specs.declared.types.Numbered.{Numbered}
-use Rattle.clock.specs.declared.types.Numbered.TheVariants.{Number, Refused as Unnumbered}
-use Rattle.clock.specs.declared.types.Span.{Span}
-use Rattle.clock.specs.declared.types.Span.TheVariants.{Frames, Refused as Unmeasured}
-use Rattle.pictures.specs.declared.types.InSecond.{InSecond}
-use Rattle.pictures.specs.declared.types.InSecond.TheVariants.{Number as NumberWithin, Refused as Uncounted}
-use Rattle.pictures.specs.declared.types.Pictured.{Pictured}
-use Rattle.pictures.specs.declared.types.Pictured.TheVariants.{At, Refused as Unpictured}
-use Rattle.runs.specs.declared.types.Written.{Written}
-use Rattle.runs.specs.declared.types.Written.TheVariants.{Done, Refused as Unwritten}
-use Rattle.record.specs.declared.types.Unpacked.{Unpacked}
-use Rattle.record.specs.declared.types.Unpacked.TheVariants.{Holds as Held, Refused as Unheld}
+use Rattle.clock.specs.declared.types.DayFrame.{DayFrame}
+use Rattle.refusals.specs.declared.types.Refusal.{Refusal}
+use Rattle.pictures.specs.declared.types.PictureInSecond.{PictureInSecond}
+use Rattle.pictures.specs.declared.types.Picture.{Picture}
 use Rattle.polarity.specs.declared.types.Word.{Word}
-use Rattle.polarity.specs.declared.types.Word.TheVariants.{Holds, Refused as Unread}
-use Rattle.atc.specs.declared.types.Packet.{Packet}
-use Rattle.atc.specs.declared.types.Packet.TheVariants.{Holds as Carries, Refused as Unopened}
+use Rattle.record.specs.declared.types.Record.{Record}
+use Rattle.atc.specs.declared.types.Contents.{Contents}
+use Rattle.std.specs.Prelude.{ℕ, pos, Err, Ok, Result, ℤ}
 use Rattle.hearing.specs.declared.types.Heard.{Heard}
 use Rattle.hearing.specs.declared.types.Heard.TheVariants.{Nothing, Accepted, Refused}
 use Rattle.reader.specs.declared.types.Stepped.{Stepped}
@@ -74,42 +65,42 @@ no_record =
     }
 
 -- a count: done, and the number, the picture or the distance
-abbrev pub number_answer : Numbered → NumberAnswer
-number_answer (Number n) = record { code = done; number = n.0 }
-number_answer (Unnumbered k) = record { code = k; number = 0 }
+abbrev pub number_answer : Result DayFrame Refusal → NumberAnswer
+number_answer (Ok n) = record { code = done; number = n.0 }
+number_answer (Err k) = record { code = k; number = 0 }
 
-abbrev pub second_answer : InSecond → SecondAnswer
-second_answer (NumberWithin n) = record { code = done; number = n.0 }
-second_answer (Uncounted k) = record { code = k; number = 0 }
+abbrev pub second_answer : Result PictureInSecond Refusal → SecondAnswer
+second_answer (Ok n) = record { code = done; number = n.0 }
+second_answer (Err k) = record { code = k; number = 0 }
 
-abbrev pub picture_answer : Pictured → PictureAnswer
-picture_answer (At p) = record { code = done; picture = picture_shown p }
-picture_answer (Unpictured k) = record { code = k; picture = no_picture }
+abbrev pub picture_answer : Result Picture Refusal → PictureAnswer
+picture_answer (Ok p) = record { code = done; picture = picture_shown p }
+picture_answer (Err k) = record { code = k; picture = no_picture }
 
-abbrev pub distance_answer : Span → DistanceAnswer
-distance_answer (Frames z) = record { code = done; pictures = z }
-distance_answer (Unmeasured k) = record { code = k; pictures = pos 0 }
+abbrev pub distance_answer : Result ℤ Refusal → DistanceAnswer
+distance_answer (Ok z) = record { code = done; pictures = z }
+distance_answer (Err k) = record { code = k; pictures = pos 0 }
 
 -- a write: done, and nothing beside the code
-abbrev pub written_code : Written → ℕ
-written_code Done = done
-written_code (Unwritten k) = k
+abbrev pub written_code : Result Unit Refusal → ℕ
+written_code (Ok tt) = done
+written_code (Err k) = k
 
 -- a read: accepted, and what was read
-abbrev pub word_answer : Word → WordAnswer
-word_answer (Holds r found) = record { code = accepted; found = found_shown found; «record» = record_shown r }
-word_answer (Unread k) = record { code = k; found = 0; «record» = no_record }
+abbrev pub word_answer : Result Word Refusal → WordAnswer
+word_answer (Ok (reading r found)) = record { code = accepted; found = found_shown found; «record» = record_shown r }
+word_answer (Err k) = record { code = k; found = 0; «record» = no_record }
 
-abbrev pub line_answer : Unpacked → LineAnswer
-line_answer (Held r) = record { code = accepted; «record» = record_shown r }
-line_answer (Unheld k) = record { code = k; «record» = no_record }
+abbrev pub line_answer : Result Record Refusal → LineAnswer
+line_answer (Ok r) = record { code = accepted; «record» = record_shown r }
+line_answer (Err k) = record { code = k; «record» = no_record }
 
 abbrev pub contents_with : PlainRecord → ℕ → ℕ → PlainContents
 contents_with r type second = record { «record» = r; payload_type = type; second = second }
 
-abbrev pub packet_answer : Packet → PacketAnswer
-packet_answer (Carries c) = record { code = accepted; contents = contents_with (record_shown c.«record») c.payload_type c.second }
-packet_answer (Unopened k) = record { code = k; contents = contents_with no_record 0 0 }
+abbrev pub packet_answer : Result Contents Refusal → PacketAnswer
+packet_answer (Ok c) = record { code = accepted; contents = contents_with (record_shown c.«record») c.payload_type c.second }
+packet_answer (Err k) = record { code = k; contents = contents_with no_record 0 0 }
 
 -- a step: nothing, accepted with the whole record, or refused; and the reader after it
 abbrev pub heard_with : ℕ → ℕ → ℕ → PlainRecord → PlainHeard

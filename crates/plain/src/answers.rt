@@ -3,57 +3,54 @@ ghost use Rattle.std.specs.Prelude.{◌≡◌};
 ghost use Rattle.hearing.specs.declared.types.Heard.TheVariants.{Refused};
 ghost use Rattle.plain.specs.Answers.{number_answer, second_answer, picture_answer, distance_answer, written_code, no_record, word_answer, line_answer, packet_answer, heard_shown, step_answer, block_answer};
 
+use atc::Contents;
+use record::Record;
+use pictures::{Picture, PictureInSecond};
+use clock::DayFrame;
 use crate::shown::{found_shown, picture_shown, reader_shown, record_shown, way_shown};
-use crate::types::{
-    BlockAnswer, DistanceAnswer, LineAnswer, NumberAnswer, PacketAnswer, PictureAnswer,
-    PlainContents, PlainHeard, PlainPicture, PlainRecord, SecondAnswer, StepAnswer, WordAnswer,
-};
-use atc::Packet;
-use clock::{Numbered, Span};
+use crate::types::{BlockAnswer, DistanceAnswer, LineAnswer, NumberAnswer, PacketAnswer, PictureAnswer, PlainContents, PlainHeard, PlainPicture, PlainRecord, SecondAnswer, StepAnswer, WordAnswer};
 use hearing::Heard;
-use pictures::{InSecond, Pictured};
 use polarity::Word;
 use reader::{Blocked, Stepped};
-use record::Unpacked;
-use runs::Written;
+use refusals::Refusal;
 
 const DONE: u8 = 0;
 
 const ACCEPTED: u8 = 100;
 
-pub fn number(answer: Numbered) -> NumberAnswer
+pub fn number(answer: Result<DayFrame, Refusal>) -> NumberAnswer
     ensures { result ≡ number_answer answer }
 {
     match answer {
-        Numbered::Number(number) => NumberAnswer {
+        Ok(number) => NumberAnswer {
             code: DONE,
             number: number.0,
         },
-        Numbered::Refused(code) => NumberAnswer { code, number: 0 },
+        Err(code) => NumberAnswer { code, number: 0 },
     }
 }
 
-pub fn in_second(answer: InSecond) -> SecondAnswer
+pub fn in_second(answer: Result<PictureInSecond, Refusal>) -> SecondAnswer
     ensures { result ≡ second_answer answer }
 {
     match answer {
-        InSecond::Number(number) => SecondAnswer {
+        Ok(number) => SecondAnswer {
             code: DONE,
             number: number.0,
         },
-        InSecond::Refused(code) => SecondAnswer { code, number: 0 },
+        Err(code) => SecondAnswer { code, number: 0 },
     }
 }
 
-pub fn picture(answer: Pictured) -> PictureAnswer
+pub fn picture(answer: Result<Picture, Refusal>) -> PictureAnswer
     ensures { result ≡ picture_answer answer }
 {
     match answer {
-        Pictured::At(p) => PictureAnswer {
+        Ok(p) => PictureAnswer {
             code: DONE,
             picture: picture_shown(p),
         },
-        Pictured::Refused(code) => PictureAnswer {
+        Err(code) => PictureAnswer {
             code,
             picture: PlainPicture {
                 hours: 0,
@@ -66,24 +63,24 @@ pub fn picture(answer: Pictured) -> PictureAnswer
     }
 }
 
-pub fn distance(answer: Span) -> DistanceAnswer
+pub fn distance(answer: Result<i32, Refusal>) -> DistanceAnswer
     ensures { result ≡ distance_answer answer }
 {
     match answer {
-        Span::Frames(pictures) => DistanceAnswer {
+        Ok(pictures) => DistanceAnswer {
             code: DONE,
             pictures,
         },
-        Span::Refused(code) => DistanceAnswer { code, pictures: 0 },
+        Err(code) => DistanceAnswer { code, pictures: 0 },
     }
 }
 
-pub fn written(answer: Written) -> u8
+pub fn written(answer: Result<(), Refusal>) -> u8
     ensures { result ≡ written_code answer }
 {
     match answer {
-        Written::Done => DONE,
-        Written::Refused(code) => code,
+        Ok(()) => DONE,
+        Err(code) => code,
     }
 }
 
@@ -113,16 +110,16 @@ fn no_record() -> PlainRecord
     }
 }
 
-pub fn word(answer: Word) -> WordAnswer
+pub fn word(answer: Result<Word, Refusal>) -> WordAnswer
     ensures { result ≡ word_answer answer }
 {
     match answer {
-        Word::Holds(held, found) => WordAnswer {
+        Ok(held, found) => WordAnswer {
             code: ACCEPTED,
             found: found_shown(found),
             record: record_shown(held),
         },
-        Word::Refused(code) => WordAnswer {
+        Err(code) => WordAnswer {
             code,
             found: 0,
             record: no_record(),
@@ -130,26 +127,26 @@ pub fn word(answer: Word) -> WordAnswer
     }
 }
 
-pub fn line(answer: Unpacked) -> LineAnswer
+pub fn line(answer: Result<Record, Refusal>) -> LineAnswer
     ensures { result ≡ line_answer answer }
 {
     match answer {
-        Unpacked::Holds(held) => LineAnswer {
+        Ok(held) => LineAnswer {
             code: ACCEPTED,
             record: record_shown(held),
         },
-        Unpacked::Refused(code) => LineAnswer {
+        Err(code) => LineAnswer {
             code,
             record: no_record(),
         },
     }
 }
 
-pub fn packet(answer: Packet) -> PacketAnswer
+pub fn packet(answer: Result<Contents, Refusal>) -> PacketAnswer
     ensures { result ≡ packet_answer answer }
 {
     match answer {
-        Packet::Holds(contents) => {
+        Ok(contents) => {
             let held = contents.record;
             PacketAnswer {
                 code: ACCEPTED,
@@ -160,7 +157,7 @@ pub fn packet(answer: Packet) -> PacketAnswer
                 },
             }
         }
-        Packet::Refused(code) => PacketAnswer {
+        Err(code) => PacketAnswer {
             code,
             contents: PlainContents {
                 record: no_record(),

@@ -4,22 +4,21 @@ ghost use Rattle.polarity.specs.Heard.{heard_of};
 
 use crate::even::{found_in, is_miscorrected, unmarked};
 use crate::types::Word;
-use modes::Rated;
-use record::Unpacked;
+use refusals::Refusal;
 
 // The record of 64 information bits after which the sync word has been seen, and what was found.
-pub fn read_info(mode: u8, info: u64) -> Word
+pub fn read_info(mode: u8, info: u64) -> Result<Word, Refusal>
     ensures { result ≡ heard_of mode info }
 {
-    let Rated::Known(rate) = modes::rate_of(mode) else {
-        return Word::Refused(refusals::UNKNOWN_MODE);
+    let Ok(rate) = modes::rate_of(mode) else {
+        return Err(Refusal::UnknownMode);
     };
     if is_miscorrected(rate, info) {
-        return Word::Refused(refusals::WRONG_CHECK);
+        return Err(Refusal::WrongCheck);
     }
     let held = modes::from_bits(mode, info);
     match held {
-        Unpacked::Refused(number) => Word::Refused(number),
-        Unpacked::Holds(r) => Word::Holds(unmarked(r), found_in(info)),
+        Err(number) => Err(number),
+        Ok(r) => Ok(unmarked(r), found_in(info)),
     }
 }

@@ -11,6 +11,7 @@ use lib.Dec.{ltb, eqb}
 use lib.ListN.{length, get_or, drop, drop_of_length-le}
 use lib.Seq.{drop-cons}
 use borrow.Author.Tests.{lt-ltb, le-ltb, ltb-true, ltb-false, ne_eqb}
+use Rattle.refusals.specs.declared.types.Refusal.TheVariants.{ElementTooHigh}
 use Rattle.register.specs.declared.types.Reader.{Reader}
 use Rattle.hearing.specs.declared.types.Heard.{Heard}
 use Rattle.hearing.specs.declared.types.Heard.TheVariants.{Nothing, Refused}
@@ -28,7 +29,7 @@ at_limit reader (element ∷ elements) = refl
 
 -- one turn, from a reader whose mode and state are sound, before the limit
 module _ (reader : Reader) (s : Sound reader) (limit : ℕ) (some : eqb limit 0 ≡ false) (element : ℕ) (elements : List ℕ) where
-  high_stops : 1 < element → going reader limit (element ∷ elements) ≡ stopped (Refused 3) reader 0
+  high_stops : 1 < element → going reader limit (element ∷ elements) ≡ stopped (Refused ElementTooHigh) reader 0
   unfolding going stepped_of
   high_stops high = rw (some, s.passing.known, s.passing.passes, lt-ltb 1 element high)
 
@@ -81,10 +82,10 @@ module _ (limit : ℕ) (run : List ℕ) (first : Reader) (end : ℕ) where
       left = ne_eqb (limit - taken) 0 (omega (arith, f.ends))
 
       -- before an element that is no bit
-      pub stops_before : 1 < get_or run taken 0 → stopped (Refused 3) reader taken ≡ going first limit run
+      pub stops_before : 1 < get_or run taken 0 → stopped (Refused ElementTooHigh) reader taken ≡ going first limit run
       stops_before high =
           let one = high_stops reader f.sound (limit - taken) left (get_or run taken 0) (drop (suc taken) run) high in
-          sym (f.so_far ∙ ap (more_before taken) (rw here one) ∙ ap (stopped (Refused 3) reader) (add-zero taken))
+          sym (f.so_far ∙ ap (more_before taken) (rw here one) ∙ ap (stopped (Refused ElementTooHigh) reader) (add-zero taken))
 
       module _
           (small : get_or run taken 0 ≤ 1) (next : Reader) (pushes : next ≡ reader_with reader.mode reader.ways (push (held_bits reader) (get_or run taken 0)))

@@ -1,6 +1,7 @@
 -- "A block step takes a limit and a lent run of bits. It stops after the first answer, at the limit, before an element that is no bit, or at
 -- the end, and returns the number of bits it took." It is the single step, repeated.
 -- Assumes nothing.
+use Rattle.refusals.specs.declared.types.Refusal.{Refusal}
 use Rattle.std.specs.Prelude.{ℕ, ◌+◌, ◌-◌, Bool, true, false, cond, List, [], ◌∷◌, ltb, eqb}
 use Rattle.refusals.specs.Answer.{answer}
 use Rattle.register.specs.declared.types.Reader.{Reader}
@@ -37,4 +38,4 @@ going reader limit (element ∷ elements) =
 -- "a bad mode or state answers 2 or 13 with count 0, even at limit 0"
 unfoldable pub blocked_of : Reader → ℕ → List ℕ → Blocked
 blocked_of reader limit run =
-    answer (λ (n : ℕ). stopped (Refused n) reader 0) (reader_refusals reader) (going reader limit run)
+    answer (λ (n : Refusal). stopped (Refused n) reader 0) (reader_refusals reader) (going reader limit run)

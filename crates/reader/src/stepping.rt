@@ -9,6 +9,7 @@ ghost use Rattle.reader.specs.Blocks.{is_answer, going, blocked_of};
 use crate::types::{Blocked, Stepped};
 use hearing::{Heard, heard, is_synced};
 use register::{Reader, is_unreached};
+use refusals::Refusal;
 
 // The reader with one bit more.
 fn pushed(reader: Reader, bit: u8) -> Reader
@@ -45,19 +46,19 @@ pub fn step(reader: Reader, element: u8) -> Stepped
     let unknown = modes::is_unknown(reader.mode);
     if unknown {
         return Stepped {
-            heard: Heard::Refused(refusals::UNKNOWN_MODE),
+            heard: Heard::Refused(Refusal::UnknownMode),
             reader,
         };
     }
     if is_unreached(reader) {
         return Stepped {
-            heard: Heard::Refused(refusals::STATE_NOT_REACHED),
+            heard: Heard::Refused(Refusal::StateNotReached),
             reader,
         };
     }
     if 1 < element {
         return Stepped {
-            heard: Heard::Refused(refusals::ELEMENT_TOO_HIGH),
+            heard: Heard::Refused(Refusal::ElementTooHigh),
             reader,
         };
     }
@@ -114,7 +115,7 @@ fn feed(reader: Reader, limit: usize, run: &[u8]) -> Blocked
         let element = run[taken];
         if 1 < element {
             return Blocked {
-                heard: Heard::Refused(refusals::ELEMENT_TOO_HIGH),
+                heard: Heard::Refused(Refusal::ElementTooHigh),
                 reader: now,
                 taken,
             };
@@ -145,14 +146,14 @@ pub fn block(reader: Reader, limit: usize, run: &[u8]) -> Blocked
     let unknown = modes::is_unknown(reader.mode);
     if unknown {
         return Blocked {
-            heard: Heard::Refused(refusals::UNKNOWN_MODE),
+            heard: Heard::Refused(Refusal::UnknownMode),
             reader,
             taken: 0,
         };
     }
     if is_unreached(reader) {
         return Blocked {
-            heard: Heard::Refused(refusals::STATE_NOT_REACHED),
+            heard: Heard::Refused(Refusal::StateNotReached),
             reader,
             taken: 0,
         };

@@ -5,30 +5,30 @@ use mathlib.Core.Path.{◌≡◌, sym, ap, subst, ◌∙◌}
 use mathlib.Core.List.{List}
 use native.Mathlib.Omega.{arith}
 use lib.ListN.{length, take}
+use Rattle.refusals.specs.declared.types.Refusal.{Refusal}
+use Rattle.std.specs.Prelude.{Err, Ok, Result}
 use Rattle.runs.specs.Run.{placed}
 use Rattle.text.proofs.Laid.{told_within, prefix_length}
 use Rattle.scribe.specs.declared.types.Scribe.{Scribe}
 use Rattle.scribe.specs.declared.types.Telling.{Telling}
-use Rattle.scribe.specs.declared.types.Told.{Told}
-use Rattle.scribe.specs.declared.types.Told.TheVariants.{Lines, Refused}
 use Rattle.scribe.specs.Told.{text_of, telling_of, ToldOf, Brought, piece}
 use Rattle.scribe.proofs.Pieces.{brought_sound, fewer_left, told_so}
 use Rattle.readout.specs.Piece.{PieceTold}
 
 module _
-    (before : Scribe) (brought : Brought before) (characters out : List ℕ) {told : Told} {left out_left : List ℕ}
+    (before : Scribe) (brought : Brought before) (characters out : List ℕ) {told : Result Telling Refusal} {left out_left : List ℕ}
     (tells : ToldOf before characters out told left out_left) (room : 64 * length characters ≤ length out) where
-  so : (told ≡ Lines (telling_of before characters)) × (out_left ≡ placed 0 (text_of before characters) out)
+  so : (told ≡ Ok (telling_of before characters)) × (out_left ≡ placed 0 (text_of before characters) out)
   so = told_so before characters out (brought_sound brought) room tells
 
-  pub lines_told : (telling : Telling) → told ≡ Lines telling → PieceTold before out telling out_left
+  pub lines_told : (telling : Telling) → told ≡ Ok telling → PieceTold before out telling out_left
   lines_told telling e =
-      let same : Lines telling ≡ Lines (telling_of before characters) = sym e ∙ so.0 in
+      let same : Ok telling ≡ Ok (telling_of before characters) = sym e ∙ so.0 in
       record { characters = characters; told = cc; stands = so.1 }
 
-  pub never_refused : (n : ℕ) (telling : Telling) → told ≡ Refused n → PieceTold before out telling out_left
+  pub never_refused : (n : Refusal) (telling : Telling) → told ≡ Err n → PieceTold before out telling out_left
   never_refused n telling e =
-      let other : Refused n ≡ Lines (telling_of before characters) = sym e ∙ so.0 in
+      let other : Err n ≡ Ok (telling_of before characters) = sym e ∙ so.0 in
       let z : ◌≡◌ {A = ℕ} 0 1 = cc in absurd (omega arith)
 
 module _ (before : Scribe) {telling : Telling} (out : List ℕ) {out_left : List ℕ} (p : PieceTold before out telling out_left) where

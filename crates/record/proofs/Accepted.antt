@@ -4,7 +4,7 @@ use Prim.Native.Nat.{◌<◌, ◌≤◌}
 use native.Mathlib.Omega.{arith}
 use lib.Dec.{ltb}
 use borrow.Author.Tests.{ltb-false}
-use Rattle.refusals.specs.Table.{outside_the_clock}
+use Rattle.refusals.specs.declared.types.Refusal.TheVariants.{OutsideTheClock}
 use Rattle.refusals.proofs.Answered.{Clear, neither}
 use Rattle.refusals.proofs.ByNumber.{clear_at}
 use Rattle.rates.specs.declared.types.Rate.{Rate}
@@ -37,7 +37,7 @@ pub record Writable (a : Address) (g : Groups) : Type 0 where
 pub writable : (rate : Rate) (r : Record) → Clear (write_refusals rate r) → Writable r.address r.groups
 writable rate r clear =
     let g = r.groups in
-    let eight = neither (group_above_15 g) (outside (frames_in_second rate) r.address) (clear_at outside_the_clock (write_refusals rate r) clear) in
+    let eight = neither (group_above_15 g) (outside (frames_in_second rate) r.address) (clear_at OutsideTheClock (write_refusals rate r) clear) in
     let within = inside (frames_in_second rate) r.address eight.1 in
     let g1 = neither (ltb 15 g.group1) _ eight.0 in
     let g2 = neither (ltb 15 g.group2) _ g1.1 in

@@ -6,10 +6,10 @@ ghost use Rattle.record.specs.Calls.{record_refusals};
 use crate::types::Record;
 use layout::is_unused_colour;
 use rates::Rate;
-use refusals::Verdict;
+use refusals::Refusal;
 
 // `bad` where a digit or a group is out of its range, and `unused` where a place is not used: neither is a concern of the clock's.
-pub fn judge(rate: Rate, bad: bool, unused: bool, r: Record) -> Verdict
+pub fn judge(rate: Rate, bad: bool, unused: bool, r: Record) -> Result<(), Refusal>
     ensures { result ≡ verdict_of (record_refusals rate bad unused r) }
 {
     let flags = r.flags;

@@ -12,5 +12,5 @@ mod types;
 mod writing;
 
 pub use reading::from_bits;
-pub use types::{Flags, Groups, Packed, Record, Unpacked};
+pub use types::{Flags, Groups, Record};
 pub use writing::to_bits;

@@ -5,10 +5,10 @@ ghost use Rattle.record.specs.Record.{address_held, flags_held, groups_held, rec
 ghost use Rattle.record.specs.Calls.{unpacked_of};
 
 use crate::judging::judge;
-use crate::types::{Flags, Groups, Record, Unpacked};
+use crate::types::{Flags, Groups, Record};
 use layout::{by_25, flag};
 use rates::{Address, Rate, SecondFrame};
-use refusals::Verdict;
+use refusals::Refusal;
 
 fn has_bad_digit(info: u64) -> bool
     ensures { result ≡ digit_above_9 info }
@@ -75,13 +75,10 @@ fn record_held(rate: Rate, info: u64) -> Record
     }
 }
 
-pub fn from_bits(rate: Rate, info: u64) -> Unpacked
+pub fn from_bits(rate: Rate, info: u64) -> Result<Record, Refusal>
     ensures { result ≡ unpacked_of rate info }
 {
     let record = record_held(rate, info);
-    let found = judge(rate, has_bad_digit(info), false, record);
-    match found {
-        Verdict::Refused(number) => Unpacked::Refused(number),
-        Verdict::Sound => Unpacked::Holds(record),
-    }
+    judge(rate, has_bad_digit(info), false, record)?;
+    Ok(record)
 }

@@ -32,17 +32,3 @@ pub struct Record {
     pub groups: Groups,
     pub place: u8,
 }
-
-// The record that 64 information bits hold.
-#[derive(Clone, Copy)]
-pub enum Unpacked {
-    Holds(Record),
-    Refused(u8),
-}
-
-// The 64 information bits that a record makes, low bit first.
-#[derive(Clone, Copy)]
-pub enum Packed {
-    Bits(u64),
-    Refused(u8),
-}

@@ -1,16 +1,15 @@
 // From a record to 64 information bits.
-ghost use Rattle.std.specs.Prelude.{◌≡◌};
-ghost use Rattle.refusals.specs.declared.types.Verdict.TheVariants.{Sound};
+ghost use Rattle.std.specs.Prelude.{◌≡◌, Ok};
 ghost use Rattle.refusals.specs.Answer.{verdict_of};
 ghost use Rattle.record.specs.Record.{info_of, group_above_15};
 ghost use Rattle.record.specs.Fits.{QuarterOf};
 ghost use Rattle.record.specs.Calls.{write_refusals, packed_of};
 
 use crate::judging::judge;
-use crate::types::{Groups, Packed, Record};
+use crate::types::{Groups, Record};
 use layout::{bit, by_25};
 use rates::{Flag, Rate};
-use refusals::Verdict;
+use refusals::Refusal;
 
 fn has_high_group(g: Groups) -> bool
     ensures { result ≡ group_above_15 g }
@@ -33,7 +32,7 @@ fn quarter(number: u8, low: u8, first: Flag, second: Flag, high: u8) -> u64
 
 // The four quarters of a record, with the flags whose places the rate decides.
 fn packed(rate: Rate, r: Record) -> u64
-    requires { verdict_of (write_refusals rate r) ≡ Sound }
+    requires { verdict_of (write_refusals rate r) ≡ Ok tt }
     ensures { result ≡ info_of rate r }
 {
     let a = r.address;
@@ -55,14 +54,11 @@ fn packed(rate: Rate, r: Record) -> u64
     first + 0x1_0000 * (second + 0x1_0000 * (third + 0x1_0000 * fourth))
 }
 
-pub fn to_bits(rate: Rate, r: Record) -> Packed
+pub fn to_bits(rate: Rate, r: Record) -> Result<u64, Refusal>
     ensures { result ≡ packed_of rate r }
 {
     let groups = r.groups;
     let unused = 0 < r.place;
-    let found = judge(rate, has_high_group(groups), unused, r);
-    match found {
-        Verdict::Refused(number) => Packed::Refused(number),
-        Verdict::Sound => Packed::Bits(packed(rate, r)),
-    }
+    judge(rate, has_high_group(groups), unused, r)?;
+    Ok(packed(rate, r))
 }

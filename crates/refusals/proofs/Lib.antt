@@ -6,5 +6,7 @@ pub mod Same
 pub mod ByNumber
 -- First     of a list that follows an order, the first number of the order that applies is given
 pub mod First
+-- Results   what a list comes to, where a call accepts or refuses
+pub mod Results
 -- Verdicts  a call that takes its refusal from a verdict answers as its own list says
 pub mod Verdicts

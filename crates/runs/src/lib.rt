@@ -11,4 +11,4 @@ mod types;
 
 pub use carry::{gather, scatter};
 pub use room::lacks_room;
-pub use types::{Gathered, Written};
+pub use types::Gathered;

@@ -5,10 +5,3 @@ pub enum Gathered {
     TooLong,
     NoBit,
 }
-
-// What a write into a lent run answers.
-#[derive(Clone, Copy)]
-pub enum Written {
-    Done,
-    Refused(u8),
-}

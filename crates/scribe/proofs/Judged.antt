@@ -1,10 +1,11 @@
 -- What a reader that is asked for no bit says of its mode and state is what the call's list says of them first.
 -- Assumes nothing.
+use Rattle.refusals.specs.declared.types.Refusal.{Refusal}
+use Rattle.std.specs.Prelude.{Err, Ok, Result}
+use Rattle.refusals.specs.declared.types.Refusal.TheVariants.{NoRoom, StateNotReached, UnknownMode}
 use Rattle.std.proofs.Common.{◌≡◌, ℕ, ◌+◌, ◌*◌, ◌<◌, ◌≤◌, Bool, true, false, List, [], ◌∷◌, length, sym, refl, ◌∙◌, arith, le-ltb, lt-ltb}
 use Rattle.runs.specs.Run.{placed}
 use Rattle.runs.proofs.Outcomes.{unchanged}
-use Rattle.refusals.specs.declared.types.Verdict.{Verdict}
-use Rattle.refusals.specs.declared.types.Verdict.TheVariants.{Sound, Refused as Unsound}
 use Rattle.modes.specs.Modes.{unknown}
 use Rattle.register.specs.declared.types.Reader.{Reader}
 use Rattle.hearing.specs.declared.types.Heard.TheVariants.{Nothing}
@@ -15,7 +16,6 @@ use Rattle.reader.specs.Feeding.{Passing}
 use Rattle.characters.specs.Characters.{bits_in}
 use Rattle.scribe.specs.declared.types.Scribe.{Scribe}
 use Rattle.scribe.specs.declared.types.Telling.{Telling}
-use Rattle.scribe.specs.declared.types.Told.TheVariants.{Lines, Refused}
 use Rattle.scribe.specs.Told.{counted, text_of, telling_of, tell_refusals, told_of, characters_after, out_of, ToldOf}
 use Rattle.scribe.specs.Blocks.{verdict_in}
 
@@ -24,61 +24,61 @@ unfolding going
 quiet_at_0 r [] = refl
 quiet_at_0 r (element ∷ elements) = refl
 
-module _ (reader : Reader) (run : List ℕ) {asked : Blocked} {found : Verdict} (took : asked ≡ blocked_of reader 0 run) (says : found ≡ verdict_in asked.heard) where
+module _ (reader : Reader) (run : List ℕ) {asked : Blocked} {found : Result Unit Refusal} (took : asked ≡ blocked_of reader 0 run) (says : found ≡ verdict_in asked.heard) where
   judged : found ≡ verdict_in (blocked_of reader 0 run).heard
   judged = says ∙ rw took
 
-  pub sound_so : found ≡ Sound → Passing reader
+  pub sound_so : found ≡ Ok tt → Passing reader
   unfolding blocked_of
   sound_so e = go (unknown reader.mode) refl (unreached reader) refl
     where
-      given : Sound ≡ verdict_in (blocked_of reader 0 run).heard
+      given : Ok tt ≡ verdict_in (blocked_of reader 0 run).heard
       given = sym e ∙ judged
 
       go : (m : Bool) → unknown reader.mode ≡ m → (u : Bool) → unreached reader ≡ u → Passing reader
       go true m u v =
-          let two : Sound ≡ Unsound 2 = rw m at given in
+          let two : Ok tt ≡ Err UnknownMode = rw m at given in
           let z : ◌≡◌ {A = ℕ} 0 1 = cc in absurd (omega arith)
       go false m true v =
-          let thirteen : Sound ≡ Unsound 13 = rw (m, v) at given in
+          let thirteen : Ok tt ≡ Err StateNotReached = rw (m, v) at given in
           let z : ◌≡◌ {A = ℕ} 0 1 = cc in absurd (omega arith)
       go false m false v = record { known = m; passes = v }
 
-not_told : (telling : Telling) (n : ℕ) → Refused n ≡ Lines telling → ⊥
+not_told : (telling : Telling) (n : Refusal) → Err n ≡ Ok telling → ⊥
 not_told telling n e = let z : ◌≡◌ {A = ℕ} 0 1 = cc in omega arith
 
 module _ (before : Scribe) (characters out : List ℕ) where
   -- a call that is turned away leaves the characters and the run as they were
-  pub refused_leaves : (n : ℕ) → told_of before characters out ≡ Refused n → (characters_after before characters out ≡ characters) × (out_of before characters out ≡ out)
+  pub refused_leaves : (n : Refusal) → told_of before characters out ≡ Err n → (characters_after before characters out ≡ characters) × (out_of before characters out ≡ out)
   unfolding told_of characters_after out_of
   refused_leaves n e =
       let telling = telling_of before characters in
-      let same = unchanged Refused (Lines telling) (not_told telling) (tell_refusals before characters out) 0 in
+      let same = unchanged Err (Ok telling) (not_told telling) (tell_refusals before characters out) 0 in
       (same (bits_in (counted before characters)) characters n e, same (text_of before characters) out n e)
 
-  module _ (run : List ℕ) {asked : Blocked} {found : Verdict} (took : asked ≡ blocked_of before.reader 0 run) (says : found ≡ verdict_in asked.heard) where
-    pub turned_away : (n : ℕ) → found ≡ Unsound n → ToldOf before characters out (Refused n) characters out
+  module _ (run : List ℕ) {asked : Blocked} {found : Result Unit Refusal} (took : asked ≡ blocked_of before.reader 0 run) (says : found ≡ verdict_in asked.heard) where
+    pub turned_away : (n : Refusal) → found ≡ Err n → ToldOf before characters out (Err n) characters out
     unfolding told_of characters_after out_of blocked_of
     turned_away n e = go (unknown before.reader.mode) refl (unreached before.reader) refl
       where
-        given : Unsound n ≡ verdict_in (blocked_of before.reader 0 run).heard
+        given : Err n ≡ verdict_in (blocked_of before.reader 0 run).heard
         given = sym e ∙ judged before.reader run took says
 
-        go : (m : Bool) → unknown before.reader.mode ≡ m → (u : Bool) → unreached before.reader ≡ u → ToldOf before characters out (Refused n) characters out
+        go : (m : Bool) → unknown before.reader.mode ≡ m → (u : Bool) → unreached before.reader ≡ u → ToldOf before characters out (Err n) characters out
         go true m u v =
-            let two : Unsound n ≡ Unsound 2 = rw m at given in
+            let two : Err n ≡ Err UnknownMode = rw m at given in
             let number : n ≡ 2 = cc in
             record { answers_so = rw (m, number); leaves_characters = rw m; leaves_out = rw m }
         go false m true v =
-            let thirteen : Unsound n ≡ Unsound 13 = rw (m, v) at given in
+            let thirteen : Err n ≡ Err StateNotReached = rw (m, v) at given in
             let number : n ≡ 13 = cc in
             record { answers_so = rw (m, v, number); leaves_characters = rw (m, v); leaves_out = rw (m, v) }
         go false m false v =
-            let none : Unsound n ≡ Sound = rw (m, v, quiet_at_0 before.reader run) at given in
+            let none : Err n ≡ Ok tt = rw (m, v, quiet_at_0 before.reader run) at given in
             let z : ◌≡◌ {A = ℕ} 0 1 = cc in absurd (omega arith)
 
   module _ (sound : Passing before.reader) where
-    pub no_room_left : length out < 64 * length characters → ToldOf before characters out (Refused 12) characters out
+    pub no_room_left : length out < 64 * length characters → ToldOf before characters out (Err NoRoom) characters out
     unfolding told_of characters_after out_of
     no_room_left few =
         let short = lt-ltb (length out) (0 + 64 * length characters) (omega arith) in
@@ -93,7 +93,7 @@ module _ (before : Scribe) (characters out : List ℕ) where
         → (telling ≡ telling_of before characters)
         × (bits_left ≡ placed 0 (bits_in (counted before characters)) characters)
         × (out_left ≡ placed 0 (text_of before characters) out)
-        → ToldOf before characters out (Lines telling) bits_left out_left
+        → ToldOf before characters out (Ok telling) bits_left out_left
     unfolding told_of characters_after out_of
     told_all enough told =
         let fits = le-ltb (length out) (0 + 64 * length characters) (omega arith) in

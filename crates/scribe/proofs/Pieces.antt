@@ -1,5 +1,8 @@
 -- Pieces of characters, one after the other: the reader stays sound, the characters that may still come grow fewer, and where there is room each piece is told.
 -- Assumes nothing.
+use Rattle.scribe.specs.declared.types.Telling.{Telling}
+use Rattle.refusals.specs.declared.types.Refusal.{Refusal}
+use Rattle.std.specs.Prelude.{Ok, Result}
 use Rattle.std.proofs.Common.{◌≡◌, ℕ, ◌+◌, ◌*◌, ◌<◌, ◌≤◌, Bool, true, false, ◌&&◌, ltb, List, length, refl, ◌∙◌, arith, ltb-true, le-ltb}
 use Rattle.bits.specs.Bits.{to_bits, how_many}
 use Rattle.runs.specs.Run.{placed}
@@ -10,8 +13,6 @@ use Rattle.reader.specs.Feeding.{Passing}
 use Rattle.following.proofs.Passing.{fed_passing}
 use Rattle.characters.specs.Characters.{bits_in, goes_on}
 use Rattle.scribe.specs.declared.types.Scribe.{Scribe}
-use Rattle.scribe.specs.declared.types.Told.{Told}
-use Rattle.scribe.specs.declared.types.Told.TheVariants.{Lines}
 use Rattle.scribe.specs.Told.{counted, text_of, left_after, scribe_after, telling_of, told_of, out_of, ToldOf, Brought, fresh, piece}
 
 -- the reader of a scribe that pieces of characters bring about is sound
@@ -32,8 +33,8 @@ fewer_left s characters some = go (ltb 0 (length (counted s characters)) && goes
 
 -- where the reader is sound and there is room, a piece is told
 module _ (before : Scribe) (characters out : List ℕ) (sound : Passing before.reader) (room : 64 * length characters ≤ length out) where
-  pub told_so : {told : Told} {characters_left out_left : List ℕ} → ToldOf before characters out told characters_left out_left
-      → (told ≡ Lines (telling_of before characters)) × (out_left ≡ placed 0 (text_of before characters) out)
+  pub told_so : {told : Result Telling Refusal} {characters_left out_left : List ℕ} → ToldOf before characters out told characters_left out_left
+      → (told ≡ Ok (telling_of before characters)) × (out_left ≡ placed 0 (text_of before characters) out)
   unfolding told_of out_of
   told_so t =
       let fits = le-ltb (length out) (0 + 64 * length characters) (omega arith) in

@@ -1,8 +1,7 @@
 -- A run of bits, block by block: the line of each block's answer after the lines before it.
 -- Assumes nothing.
-use Rattle.std.specs.Prelude.{ℕ, ◌+◌, ◌%◌, ◌^◌, List, length}
-use Rattle.refusals.specs.declared.types.Verdict.{Verdict}
-use Rattle.refusals.specs.declared.types.Verdict.TheVariants.{Sound, Refused as Unsound}
+use Rattle.refusals.specs.declared.types.Refusal.{Refusal}
+use Rattle.std.specs.Prelude.{ℕ, ◌+◌, ◌%◌, ◌^◌, List, length, Err, Ok, Result}
 use Rattle.register.specs.declared.types.Reader.{Reader}
 use Rattle.hearing.specs.declared.types.Heard.{Heard}
 use Rattle.hearing.specs.declared.types.Heard.TheVariants.{Nothing, Accepted, Refused}
@@ -45,7 +44,7 @@ run_told reader bits run =
     }
 
 -- what a reader that is asked for no bit says of its mode and state
-abbrev pub verdict_in : Heard → Verdict
-verdict_in Nothing = Sound
-verdict_in (Accepted r) = Sound
-verdict_in (Refused n) = Unsound n
+abbrev pub verdict_in : Heard → Result Unit Refusal
+verdict_in Nothing = (Ok tt)
+verdict_in (Accepted r) = (Ok tt)
+verdict_in (Refused n) = Err n

@@ -1,9 +1,10 @@
 -- What the program tells: "The program reads characters 0 and 1 in mode 2, skips spaces and line feeds, and ends at the input's end, at any other
 -- character, or after 16,777,216 characters in all .. Each answer's line is the bits so far", and so on.
 -- Assumes nothing.
-use Rattle.std.specs.Prelude.{◌≡◌, ℕ, ◌+◌, ◌-◌, ◌*◌, ◌%◌, ◌^◌, Bool, cond, ◌&&◌, List, [], ◌∷◌, ◌++◌, length, take, nat_lt}
-use Rattle.refusals.specs.Table.{no_room}
-use Rattle.refusals.specs.Answer.{Refusal, ◌when◌, answer}
+use Rattle.refusals.specs.declared.types.Refusal.TheVariants.{NoRoom}
+use Rattle.refusals.specs.declared.types.Refusal.{Refusal}
+use Rattle.std.specs.Prelude.{◌≡◌, ℕ, ◌+◌, ◌-◌, ◌*◌, ◌%◌, ◌^◌, Bool, cond, ◌&&◌, List, [], ◌∷◌, ◌++◌, length, take, nat_lt, Err, Ok, Result}
+use Rattle.refusals.specs.Answer.{Cause, ◌when◌, answer}
 use Rattle.runs.specs.Run.{lacks_room, run_after}
 use Rattle.hearing.specs.declared.types.Heard.{Heard}
 use Rattle.register.specs.declared.types.Ways.TheVariants.{ForwardOnly}
@@ -14,8 +15,6 @@ use Rattle.lines.specs.Lines.{line_of}
 use Rattle.characters.specs.Characters.{bits_in, goes_on}
 use Rattle.scribe.specs.declared.types.Scribe.{Scribe}
 use Rattle.scribe.specs.declared.types.Telling.{Telling}
-use Rattle.scribe.specs.declared.types.Told.{Told}
-use Rattle.scribe.specs.declared.types.Told.TheVariants.{Lines, Refused}
 
 -- "in mode 2", forward only, no bits so far, "16,777,216 characters in all"
 abbrev pub fresh_scribe : Scribe
@@ -57,12 +56,12 @@ unfoldable pub telling_of : Scribe → List ℕ → Telling
 telling_of before characters = record { scribe = scribe_after before characters; length = length (text_of before characters) }
 
 -- 2 a mode that is unknown; 13 straight after it; 12, stretched to the places that are written to here, fewer than 64 for each character, which are room for its line
-abbrev pub tell_refusals : Scribe → List ℕ → List ℕ → List Refusal
+abbrev pub tell_refusals : Scribe → List ℕ → List ℕ → List Cause
 tell_refusals before characters out =
-    reader_refusals before.reader ++ ((no_room when lacks_room (64 * length characters) 0 (length out)) ∷ [])
+    reader_refusals before.reader ++ ((NoRoom when lacks_room (64 * length characters) 0 (length out)) ∷ [])
 
-unfoldable pub told_of : Scribe → List ℕ → List ℕ → Told
-told_of before characters out = answer Refused (tell_refusals before characters out) (Lines (telling_of before characters))
+unfoldable pub told_of : Scribe → List ℕ → List ℕ → Result Telling Refusal
+told_of before characters out = answer Err (tell_refusals before characters out) (Ok (telling_of before characters))
 
 -- the characters as the call leaves them: where it is not refused, the bits stand in place of the first of them
 unfoldable pub characters_after : Scribe → List ℕ → List ℕ → List ℕ
@@ -73,7 +72,7 @@ unfoldable pub out_of : Scribe → List ℕ → List ℕ → List ℕ
 out_of before characters out = run_after (tell_refusals before characters out) 0 (text_of before characters) out
 
 -- what is told, and both lent runs at the end
-pub record ToldOf (before : Scribe) (characters out : List ℕ) (told : Told) (characters_left out_left : List ℕ) : Type 0 where
+pub record ToldOf (before : Scribe) (characters out : List ℕ) (told : Result Telling Refusal) (characters_left out_left : List ℕ) : Type 0 where
   pub answers_so : told ≡ told_of before characters out
   pub leaves_characters : characters_left ≡ characters_after before characters out
   pub leaves_out : out_left ≡ out_of before characters out

@@ -11,8 +11,8 @@ ghost use Rattle.scribe.specs.Loops.{Ready};
 
 use crate::types::{Block, Scribe, Telling, Told};
 use hearing::Heard;
-use refusals::Verdict;
 use register::{Reader, Ways};
+use refusals::Refusal;
 
 // "in mode 2 .. after 16,777,216 characters in all". It hears forward only.
 const MODE: u8 = 2;
@@ -119,13 +119,13 @@ fn telling(before: Scribe, characters: &mut [u8], out: &mut [u8]) -> Telling
 }
 
 // What a reader that is asked for no bit says of its mode and state.
-fn verdict(heard: Heard) -> Verdict
+fn verdict(heard: Heard) -> Result<(), Refusal>
     ensures { result ≡ verdict_in heard }
 {
     match heard {
-        Heard::Nothing => Verdict::Sound,
-        Heard::Accepted(_) => Verdict::Sound,
-        Heard::Refused(number) => Verdict::Refused(number),
+        Heard::Nothing => Ok(()),
+        Heard::Accepted(_) => Ok(()),
+        Heard::Refused(number) => Err(number),
     }
 }
 
@@ -138,10 +138,10 @@ pub fn tell(before: Scribe, characters: &mut [u8], out: &mut [u8]) -> Told
     let heard = asked.heard;
     let found = verdict(heard);
     match found {
-        Verdict::Refused(number) => Told::Refused(number),
-        Verdict::Sound => {
+        Err(number) => Told::Refused(number),
+        Ok(()) => {
             if out.len() / lines::ROOM < characters.len() {
-                return Told::Refused(refusals::NO_ROOM);
+                return Told::Refused(Refusal::NoRoom);
             }
             Told::Lines(telling(before, characters, out))
         }

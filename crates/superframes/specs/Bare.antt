@@ -1,7 +1,8 @@
 -- Steps of the calls, which no promise to a caller names. At 24 frames `record` turns a set colour bit away, and here that bit is sub-frame 2: so a record goes to and from
 -- `record` without it, and without drop, by which 9 and 10 apply; and what is left to `record` is 8.
 -- Assumes nothing.
-use Rattle.std.specs.Prelude.{ℕ, ◌-◌, ◌*◌, ◌/◌, ◌%◌}
+use Rattle.refusals.specs.declared.types.Refusal.{Refusal}
+use Rattle.std.specs.Prelude.{ℕ, ◌-◌, ◌*◌, ◌/◌, ◌%◌, Err, Ok, Result}
 use Rattle.refusals.specs.Answer.{answer}
 use Rattle.rates.specs.declared.types.Rate.{Rate}
 use Rattle.rates.specs.declared.types.Flag.{Flag}
@@ -9,8 +10,6 @@ use Rattle.rates.specs.declared.types.Flag.TheVariants.{No}
 use Rattle.rates.specs.Refused.{refusals_besides}
 use Rattle.pictures.specs.Pictures.{place_outside}
 use Rattle.record.specs.declared.types.Record.{Record}
-use Rattle.record.specs.declared.types.Unpacked.{Unpacked}
-use Rattle.record.specs.declared.types.Unpacked.TheVariants.{Holds, Refused as Unheld}
 use Rattle.superframes.specs.SubFrames.{place_said, other_set, placed_at}
 
 -- the bits without the two, 10 and 11
@@ -27,7 +26,7 @@ bare r =
     }
 
 -- read, of a record that is inside the clock: 8 for its place, then 9 and 10
-abbrev pub judged_of : Rate → ℕ → Flag → Flag → Record → Unpacked
+abbrev pub judged_of : Rate → ℕ → Flag → Flag → Record → Result Record Refusal
 judged_of rate pictures drop second r =
     let place = place_said pictures r.flags.mark second r.flags.bgf0 in
-    answer Unheld (refusals_besides (place_outside pictures place) (other_set pictures r.flags) rate drop r.address) (Holds (placed_at place drop r))
+    answer Err (refusals_besides (place_outside pictures place) (other_set pictures r.flags) rate drop r.address) (Ok (placed_at place drop r))

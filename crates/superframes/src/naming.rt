@@ -2,7 +2,6 @@
 ghost use Rattle.std.specs.Prelude.{◌≡◌, ◌+◌};
 ghost use Rattle.superframes.specs.Named.{name_of, misnamed};
 
-use modes::Rowed;
 use rates::Rate;
 
 // 32 times 0, 1 or 2 for super-frames of 24, 25 or 30, and the pictures of a super-frame.
@@ -21,7 +20,7 @@ fn name_of(rate: Rate, last: u8) -> u32
 pub fn is_misnamed(mode: u8, second: u8) -> bool
     ensures { result ≡ misnamed mode second }
 {
-    let Rowed::Known(rate, last) = modes::high_row_of(mode) else {
+    let Ok(rate, last) = modes::high_row_of(mode) else {
         return false;
     };
     second as u32 != name_of(rate, last)

@@ -6,10 +6,9 @@ ghost use Rattle.superframes.specs.Calls.{unpacked_of, unpacked_in};
 
 use crate::bits::{has_other_set, place_said};
 use layout::flag;
-use modes::Rowed;
 use rates::{Flag, Rate};
-use record::{Flags, Record, Unpacked};
-use refusals::Verdict;
+use record::{Flags, Record};
+use refusals::Refusal;
 
 // A record's address and groups, with drop as its only flag and a place.
 fn placed_at(place: u8, drop: Flag, r: Record) -> Record
@@ -34,7 +33,7 @@ fn placed_at(place: u8, drop: Flag, r: Record) -> Record
 }
 
 // What is left to judge of bits whose digits and address are inside the clock: the place, drop and the sub-frame bits that are not used.
-fn judged(rate: Rate, last: u8, drop: Flag, second: Flag, r: Record) -> Unpacked
+fn judged(rate: Rate, last: u8, drop: Flag, second: Flag, r: Record) -> Result<Record, Refusal>
     ensures { result ≡ judged_of rate (last + 1) drop second r }
 {
     let flags = r.flags;
@@ -45,20 +44,20 @@ fn judged(rate: Rate, last: u8, drop: Flag, second: Flag, r: Record) -> Unpacked
     let address = r.address;
     let found = rates::judge(rate, drop, address, outside, has_other_set(last, flags));
     match found {
-        Verdict::Refused(number) => Unpacked::Refused(number),
-        Verdict::Sound => Unpacked::Holds(placed_at(place, drop, r)),
+        Err(number) => Err(number),
+        Ok(()) => Ok(placed_at(place, drop, r)),
     }
 }
 
 // At 24 frames `record` turns a set colour bit away, which is sub-frame 2 here: so bits 10 and 11 are kept from it, and judged after it.
-fn unpacked(rate: Rate, last: u8, info: u64) -> Unpacked
+fn unpacked(rate: Rate, last: u8, info: u64) -> Result<Record, Refusal>
     ensures { result ≡ unpacked_of rate (last + 1) info }
 {
     let rest = info - 0x400 * (info / 0x400 % 4);
     let held = record::from_bits(rate, rest);
     match held {
-        Unpacked::Refused(number) => Unpacked::Refused(number),
-        Unpacked::Holds(r) => {
+        Err(number) => Err(number),
+        Ok(r) => {
             let drop = flag(info / 0x400 % 2);
             let second = flag(info / 0x800 % 2);
             judged(rate, last, drop, second, r)
@@ -66,11 +65,11 @@ fn unpacked(rate: Rate, last: u8, info: u64) -> Unpacked
     }
 }
 
-pub fn from_bits(mode: u8, info: u64) -> Unpacked
+pub fn from_bits(mode: u8, info: u64) -> Result<Record, Refusal>
     ensures { result ≡ unpacked_in mode info }
 {
-    let Rowed::Known(rate, last) = modes::high_row_of(mode) else {
-        return Unpacked::Refused(refusals::UNKNOWN_MODE);
+    let Ok(rate, last) = modes::high_row_of(mode) else {
+        return Err(Refusal::UnknownMode);
     };
     unpacked(rate, last, info)
 }

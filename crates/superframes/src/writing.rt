@@ -6,10 +6,9 @@ ghost use Rattle.superframes.specs.Calls.{packed_of, packed_in};
 
 use crate::bits::{has_flag_besides_drop, three_for};
 use layout::{bit, flag};
-use modes::Rowed;
 use rates::{Flag, Rate};
-use record::{Flags, Packed, Record};
-use refusals::Verdict;
+use record::{Flags, Record};
+use refusals::Refusal;
 
 // The record with its place spread over its flags, but for drop and sub-frame 2.
 fn bare_flagged(three: u64, r: Record) -> Record
@@ -34,13 +33,13 @@ fn bare_flagged(three: u64, r: Record) -> Record
 }
 
 // `record` gives 8 alone of what it is told; the place, 9 and 10 are judged after it, and drop and sub-frame 2 put in: bits 10 and 11.
-fn packed(rate: Rate, last: u8, r: Record) -> Packed
+fn packed(rate: Rate, last: u8, r: Record) -> Result<u64, Refusal>
     ensures { result ≡ packed_of rate (last + 1) r }
 {
     let three = three_for(last, r.place);
     let made = record::to_bits(rate, bare_flagged(three, r));
-    let Packed::Bits(info) = made else {
-        return Packed::Refused(refusals::OUTSIDE_THE_CLOCK);
+    let Ok(info) = made else {
+        return Err(Refusal::OutsideTheClock);
     };
     let outside = pictures::is_place_outside(last, r.place);
     let flags = r.flags;
@@ -48,20 +47,20 @@ fn packed(rate: Rate, last: u8, r: Record) -> Packed
     let address = r.address;
     let found = rates::judge(rate, drop, address, outside, has_flag_besides_drop(flags));
     match found {
-        Verdict::Refused(number) => Packed::Refused(number),
-        Verdict::Sound => {
+        Err(number) => Err(number),
+        Ok(()) => {
             let second = flag(three / 2 % 2);
             let whole = info + 0x400 * (bit(drop) + 2 * bit(second));
-            Packed::Bits(whole)
+            Ok(whole)
         }
     }
 }
 
-pub fn to_bits(mode: u8, r: Record) -> Packed
+pub fn to_bits(mode: u8, r: Record) -> Result<u64, Refusal>
     ensures { result ≡ packed_in mode r }
 {
-    let Rowed::Known(rate, last) = modes::high_row_of(mode) else {
-        return Packed::Refused(refusals::UNKNOWN_MODE);
+    let Ok(rate, last) = modes::high_row_of(mode) else {
+        return Err(Refusal::UnknownMode);
     };
     packed(rate, last, r)
 }

@@ -7,7 +7,8 @@ use mathlib.Core.Bool.{Bool, true, false, cond}
 use mathlib.Core.Logic.{◌↔◌}
 use native.Mathlib.Omega.{arith}
 use borrow.Author.Tests.{ltb-true, ltb-false, eqb-true, eq-eqb, not-false}
-use Rattle.refusals.specs.Table.{unknown_mode, outside_the_clock}
+use Rattle.std.specs.Prelude.{Err, Ok}
+use Rattle.refusals.specs.declared.types.Refusal.TheVariants.{OutsideTheClock, UnknownMode}
 use Rattle.refusals.proofs.Answered.{Clear, otherwise_accepted, accepted_as}
 use Rattle.refusals.proofs.ByNumber.{clear_at, clear_from}
 use Rattle.rates.specs.declared.types.Flag.{Flag}
@@ -16,8 +17,6 @@ use Rattle.layout.specs.Flags.{bit_of}
 use Rattle.pictures.specs.Pictures.{several, place_unused}
 use Rattle.pictures.proofs.Sizes.{place_below, place_clear}
 use Rattle.record.specs.declared.types.Record.{Record}
-use Rattle.record.specs.declared.types.Unpacked.TheVariants.{Holds, Refused as Unheld}
-use Rattle.record.specs.declared.types.Packed.TheVariants.{Bits}
 use Rattle.record.specs.Record.{record_of, at_place}
 use Rattle.record.specs.Calls.{packed_of, unpacked_of}
 use Rattle.modes.specs.declared.types.Shows.{Shows}
@@ -43,32 +42,32 @@ module _ (mode : ℕ) where
   unpacks_at_rate n known = rw known
 
   -- bits that were unpacked are clear of refusals
-  pub unpacked_clear : (n : ℕ) (r : Record) → unpacked_in mode n ≡ Holds r → Clear (with_mode mode (bits_refusals_in mode n))
+  pub unpacked_clear : (n : ℕ) (r : Record) → unpacked_in mode n ≡ Ok r → Clear (with_mode mode (bits_refusals_in mode n))
   unfolding unpacked_in
-  unpacked_clear n r e = (accepted_as Unheld (Holds (record_in mode n)) (with_mode mode (bits_refusals_in mode n)) (Holds r) rate.no_record e).0
+  unpacked_clear n r e = (accepted_as Err (Ok (record_in mode n)) (with_mode mode (bits_refusals_in mode n)) (Ok r) rate.no_record e).0
 
   -- a record makes 64 bits exactly where those bits hold its first picture, and its place is one of the mode's
   pub one_to_one :
       (n : ℕ) (r : Record) → n < 2 ^ 64
-      → packed_in mode r ≡ Bits n ↔ ((unpacked_in mode n ≡ Holds (at_place 0 r)) × (r.place < pictures_at mode))
+      → packed_in mode r ≡ Ok n ↔ ((unpacked_in mode n ≡ Ok (at_place 0 r)) × (r.place < pictures_at mode))
   one_to_one n r low = (there, back)
     where
-      there : packed_in mode r ≡ Bits n → (unpacked_in mode n ≡ Holds (at_place 0 r)) × (r.place < pictures_at mode)
+      there : packed_in mode r ≡ Ok n → (unpacked_in mode n ≡ Ok (at_place 0 r)) × (r.place < pictures_at mode)
       there e =
           let rows = with_mode mode (write_refusals_in mode r) in
           let clear = (packed_is mode r n e).0 in
-          let known = clear_at unknown_mode rows clear in
-          let own = clear_from outside_the_clock rows clear in
+          let known = clear_at UnknownMode rows clear in
+          let own = clear_from OutsideTheClock rows clear in
           let inside = place_inside mode r own in
           let used = place_used mode r own in
           let held = (rate.one_to_one (rate_at mode) n (at_rate (pictures_at mode) r) low).0 (sym (packs_at_rate mode r known inside) ∙ e) in (
-            unpacks_at_rate n known ∙ held ∙ ap (λ (place : ℕ). Holds (at_place place r)) (none_left (pictures_at mode) r.place used),
+            unpacks_at_rate n known ∙ held ∙ ap (λ (place : ℕ). Ok (at_place place r)) (none_left (pictures_at mode) r.place used),
             place_below (pictures_at mode) r.place (some_picture mode) inside used,
           )
 
-      back : (unpacked_in mode n ≡ Holds (at_place 0 r)) × (r.place < pictures_at mode) → packed_in mode r ≡ Bits n
+      back : (unpacked_in mode n ≡ Ok (at_place 0 r)) × (r.place < pictures_at mode) → packed_in mode r ≡ Ok n
       back held =
-          let known = clear_at unknown_mode (with_mode mode (bits_refusals_in mode n)) (unpacked_clear n (at_place 0 r) held.0) in
+          let known = clear_at UnknownMode (with_mode mode (bits_refusals_in mode n)) (unpacked_clear n (at_place 0 r) held.0) in
           let place = place_clear (pictures_at mode) r.place held.1 in
           packs_at_rate mode r known place.0
           ∙ ap (λ (left : ℕ). packed_of (rate_at mode) (at_place left r)) (none_left (pictures_at mode) r.place place.1)
@@ -89,39 +88,39 @@ module _ (mode : ℕ) where
 
   -- bits that are read as a record hold its first picture
   shown_held :
-      (shows : Shows) (n : ℕ) (r : Record) → shown_in mode shows n ≡ Holds r
-      → (unpacked_in mode n ≡ Holds (at_place 0 (shown_record mode shows n))) × (shown_record mode shows n ≡ r)
+      (shows : Shows) (n : ℕ) (r : Record) → shown_in mode shows n ≡ Ok r
+      → (unpacked_in mode n ≡ Ok (at_place 0 (shown_record mode shows n))) × (shown_record mode shows n ≡ r)
   unfolding shown_in unpacked_in record_of
   shown_held shows n r e =
       let rows = with_mode mode (bits_refusals_in mode n) in
-      let taken = accepted_as Unheld (Holds (shown_record mode shows n)) rows (Holds r) rate.no_record e in
-      (otherwise_accepted Unheld (Holds (record_in mode n)) rows taken.0, ap (rate.record_held r) taken.1)
+      let taken = accepted_as Err (Ok (shown_record mode shows n)) rows (Ok r) rate.no_record e in
+      (otherwise_accepted Err (Ok (record_in mode n)) rows taken.0, ap (rate.record_held r) taken.1)
 
   -- a record makes 64 bits and shows its picture exactly where those bits, at the place that is shown, are the record
   pub shown_one_to_one :
       (shows : Shows) (n : ℕ) (r : Record) → n < 2 ^ 64
-      → ((packed_in mode r ≡ Bits n) × (unshown mode shows r ≡ false)) ↔ (shown_in mode shows n ≡ Holds r)
+      → ((packed_in mode r ≡ Ok n) × (unshown mode shows r ≡ false)) ↔ (shown_in mode shows n ≡ Ok r)
   shown_one_to_one shows n r low = (there, back)
     where
-      there : (packed_in mode r ≡ Bits n) × (unshown mode shows r ≡ false) → shown_in mode shows n ≡ Holds r
+      there : (packed_in mode r ≡ Ok n) × (unshown mode shows r ≡ false) → shown_in mode shows n ≡ Ok r
       there written =
           let held = ((one_to_one n r low).0 written.0).0 in
           let shown = eqb-true r.place (place_shown mode shows r.flags.mark) (not-false _ written.1) in
           shown_is mode shows n
           ∙ ap (shown_as mode shows) held
-          ∙ ap Holds (rate.at_place_same r (place_shown mode shows r.flags.mark) shown)
+          ∙ ap Ok (rate.at_place_same r (place_shown mode shows r.flags.mark) shown)
 
-      back : shown_in mode shows n ≡ Holds r → (packed_in mode r ≡ Bits n) × (unshown mode shows r ≡ false)
+      back : shown_in mode shows n ≡ Ok r → (packed_in mode r ≡ Ok n) × (unshown mode shows r ≡ false)
       back e =
           let held = shown_held shows n r e in
           let shown = place_shown mode shows (record_in mode n).flags.mark in
-          subst (λ (s : Record). (packed_in mode s ≡ Bits n) × (unshown mode shows s ≡ false)) held.1 (
+          subst (λ (s : Record). (packed_in mode s ≡ Ok n) × (unshown mode shows s ≡ false)) held.1 (
             (one_to_one n (shown_record mode shows n) low).1 (held.0, shown_below shows (record_in mode n).flags.mark),
             rw (eq-eqb shown shown refl),
           )
 
   -- and so of the two calls by which pictures are carried: a record is carried by 64 bits exactly where those bits are read as the record
-  pub carried_one_to_one : (shows : Shows) (n : ℕ) (r : Record) → n < 2 ^ 64 → (carried_in mode shows r ≡ Bits n) ↔ (shown_in mode shows n ≡ Holds r)
+  pub carried_one_to_one : (shows : Shows) (n : ℕ) (r : Record) → n < 2 ^ 64 → (carried_in mode shows r ≡ Ok n) ↔ (shown_in mode shows n ≡ Ok r)
   carried_one_to_one shows n r low =
       let carried = carried_exactly mode r shows n in
       let shown = shown_one_to_one shows n r low in

@@ -8,8 +8,11 @@ use mathlib.Core.Logic.{◌↔◌}
 use native.Mathlib.Omega.{arith}
 use lib.ListN.{length, drop}
 use borrow.Author.Tests.{eqb-true, eq-eqb, not-false}
-use Rattle.refusals.specs.Table.{wrong_length, unknown_mode, element_too_high, wrong_sync, wrong_check}
-use Rattle.refusals.specs.Answer.{Refusal}
+use Rattle.polarity.specs.declared.types.Word.{Word}
+use Rattle.refusals.specs.declared.types.Refusal.{Refusal}
+use Rattle.std.specs.Prelude.{Err, Result}
+use Rattle.refusals.specs.declared.types.Refusal.TheVariants.{ElementTooHigh, UnknownMode, WrongCheck, WrongLength, WrongSync}
+use Rattle.refusals.specs.Answer.{Cause}
 use Rattle.refusals.proofs.ByNumber.{rows_before, clear_at}
 use Rattle.refusals.proofs.First.{given_exactly}
 use Rattle.bits.specs.Bits.{some_above}
@@ -19,16 +22,14 @@ use Rattle.rates.specs.declared.types.Flag.{Flag}
 use Rattle.rates.specs.declared.types.Flag.TheVariants.{No, Yes}
 use Rattle.rates.specs.Rates.{is_yes}
 use Rattle.modes.specs.Modes.{unknown, rate_at}
-use Rattle.polarity.specs.declared.types.Word.{Word}
-use Rattle.polarity.specs.declared.types.Word.TheVariants.{Holds, Refused}
 use Rattle.polarity.specs.Word.{sync_word, odd_zeros, polarity_bit}
 use Rattle.ltc.specs.Calls.{read_refusals, read_of}
 use Rattle.ltc.proofs.Rows.{read_rows_in_order}
 
 -- the number that a word is refused with
-number_in : Word → ℕ
-number_in (Holds r found) = 0
-number_in (Refused n) = n
+number_in : Result Word Refusal → ℕ
+number_in (Ok (reading r found)) = 0
+number_in (Err n) = n
 
 both : (odd : Bool) (bit : Flag) → (odd && is_yes bit) ≡ true → (odd ≡ true) × (bit ≡ Yes)
 both true Yes e = (refl, refl)
@@ -42,31 +43,31 @@ Miscorrected mode word =
     × (odd_zeros word ≡ true) × (polarity_bit (rate_at mode) word ≡ Yes)
 
 module _ (mode : ℕ) (word : List ℕ) where
-  abbrev rows : List Refusal
+  abbrev rows : List Cause
   rows = read_refusals mode word
 
-  abbrev before : List Refusal
-  before = rows_before wrong_check rows
+  abbrev before : List Cause
+  before = rows_before WrongCheck rows
 
-  there : read_of mode word ≡ Refused wrong_check → Miscorrected mode word
+  there : read_of mode word ≡ Err WrongCheck → Miscorrected mode word
   unfolding read_of number_in
   there e =
-      let given = (given_exactly Refused _ number_in (λ k. refl) refl wrong_check (omega arith) rows (read_rows_in_order mode word)).0 e in
+      let given = (given_exactly Err _ number_in (λ k. refl) refl WrongCheck (omega arith) rows (read_rows_in_order mode word)).0 e in
       let clear = given.0 in
       let set = both (odd_zeros word) (polarity_bit (rate_at mode) word) given.1 in (
-        eqb-true (length word) 80 (not-false _ (clear_at wrong_length before clear)),
-        clear_at unknown_mode before clear,
-        clear_at element_too_high before clear,
-        same_elements (drop 64 word) sync_word (not-false _ (clear_at wrong_sync before clear)),
+        eqb-true (length word) 80 (not-false _ (clear_at WrongLength before clear)),
+        clear_at UnknownMode before clear,
+        clear_at ElementTooHigh before clear,
+        same_elements (drop 64 word) sync_word (not-false _ (clear_at WrongSync before clear)),
         set.0,
         set.1,
       )
 
-  back : Miscorrected mode word → read_of mode word ≡ Refused wrong_check
+  back : Miscorrected mode word → read_of mode word ≡ Err WrongCheck
   unfolding read_of
   back m =
       let sync : same (drop 64 word) sync_word ≡ true = rw m.3 (same_itself sync_word) in
       rw (eq-eqb (length word) 80 m.0, m.1, m.2, sync, m.4, m.5)
 
-  pub five_exactly : (read_of mode word ≡ Refused wrong_check) ↔ Miscorrected mode word
+  pub five_exactly : (read_of mode word ≡ Err WrongCheck) ↔ Miscorrected mode word
   five_exactly = (there, back)

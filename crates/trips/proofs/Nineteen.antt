@@ -9,13 +9,14 @@ use mathlib.Core.Logic.{◌↔◌, ◌⊎◌, inl, inr, ⊎_elim}
 use native.Mathlib.Omega.{arith}
 use lib.Dec.{ltb, eqb}
 use borrow.Author.Tests.{eqb-true, not-false}
-use Rattle.refusals.specs.Table.{unknown_mode, unknown_type, impossible_line, misnamed_mode}
-use Rattle.refusals.specs.Answer.{Refusal}
+use Rattle.atc.specs.declared.types.Contents.{Contents}
+use Rattle.refusals.specs.declared.types.Refusal.{Refusal}
+use Rattle.std.specs.Prelude.{Err, Ok, Result}
+use Rattle.refusals.specs.declared.types.Refusal.TheVariants.{ImpossibleLine, MisnamedMode, UnknownMode, UnknownType}
+use Rattle.refusals.specs.Answer.{Cause}
 use Rattle.refusals.proofs.Answered.{Clear}
 use Rattle.refusals.proofs.ByNumber.{rows_before, clear_at, clear_before, clear_whole}
 use Rattle.refusals.proofs.First.{given_exactly}
-use Rattle.runs.specs.declared.types.Written.{Written}
-use Rattle.runs.specs.declared.types.Written.TheVariants.{Done, Refused as Unwritten}
 use Rattle.runs.proofs.Same.{both_true}
 use Rattle.record.specs.declared.types.Record.{Record}
 use Rattle.modes.specs.Modes.{uncounted, high_rate, rate_at, pictures_at}
@@ -23,20 +24,18 @@ use Rattle.superframes.specs.Named.{name_of, misnamed}
 use Rattle.packets.specs.Packet.{type_in, second_in, is_unknown_type}
 use Rattle.packets.specs.Calls.{form_refusals}
 use Rattle.atc.specs.declared.types.Interface.{Interface}
-use Rattle.atc.specs.declared.types.Packet.{Packet}
-use Rattle.atc.specs.declared.types.Packet.TheVariants.{Holds, Refused as Unread}
 use Rattle.atc.specs.Lines.{lacks_entry, is_impossible_line}
 use Rattle.atc.specs.Calls.{read_refusals, read_of, written_rows, written_of}
 use Rattle.atc.proofs.Answers.{read_rows_in_order, written_rows_in_order}
 
 -- the number that a read, or a write, is refused with, and 0 where it is not
-abbrev pub of_packet : Packet → ℕ
-of_packet (Holds contents) = 0
-of_packet (Unread n) = n
+abbrev pub of_packet : Result Contents Refusal → ℕ
+of_packet (Ok contents) = 0
+of_packet (Err n) = n
 
-abbrev pub of_written : Written → ℕ
-of_written Done = 0
-of_written (Unwritten n) = n
+abbrev pub of_written : Result Unit Refusal → ℕ
+of_written (Ok tt) = 0
+of_written (Err n) = n
 
 -- "types 1 and 2" claim a line, and no others
 pub claims_a_line : (interface : Interface) (type second : ℕ) → is_impossible_line interface type second ≡ true → (type ≡ 1) ⊎ (type ≡ 2)
@@ -74,69 +73,69 @@ no_line mode interface type second known e = go (is_impossible_line interface ty
 module _ (mode : ℕ) (interface : Interface) where
   -- what is before the type's own rows: the form of the words, or the mode
   module _ (words : List ℕ) where
-    abbrev read_rows : List Refusal
+    abbrev read_rows : List Cause
     read_rows = read_refusals mode interface words
 
     abbrev read_type : ℕ
     read_type = type_in words
 
     pub read_refused_by_19 :
-        (read_of mode interface words ≡ Unread impossible_line)
+        (read_of mode interface words ≡ Err ImpossibleLine)
         ↔ (Clear (form_refusals mode words) × ((high_rate mode ≡ false) × (is_impossible_line interface read_type (second_in words) ≡ true)))
     unfolding read_of
     read_refused_by_19 =
-        let before = rows_before impossible_line read_rows in
-        let exactly = given_exactly Unread _ of_packet (λ k. refl) refl impossible_line (omega arith) read_rows (read_rows_in_order mode interface words) in (
+        let before = rows_before ImpossibleLine read_rows in
+        let exactly = given_exactly Err _ of_packet (λ k. refl) refl ImpossibleLine (omega arith) read_rows (read_rows_in_order mode interface words) in (
           λ e. (let is = exactly.0 e in
-              (clear_before unknown_type before is.0, (low_mode mode interface read_type (second_in words) (clear_at unknown_type before is.0) is.1, is.1))),
+              (clear_before UnknownType before is.0, (low_mode mode interface read_type (second_in words) (clear_at UnknownType before is.0) is.1, is.1))),
           λ both. exactly.1 (
-            clear_whole unknown_type before both.0 (low_type mode interface read_type (second_in words) both.1.0 both.1.1, tt),
+            clear_whole UnknownType before both.0 (low_type mode interface read_type (second_in words) both.1.0 both.1.1, tt),
             both.1.1,
           ),
         )
 
     pub read_refused_by_23 :
-        (read_of mode interface words ≡ Unread misnamed_mode)
+        (read_of mode interface words ≡ Err MisnamedMode)
         ↔ (Clear (form_refusals mode words) × ((is_unknown_type mode read_type ≡ false) × (misnamed mode (second_in words) ≡ true)))
     unfolding read_of
     read_refused_by_23 =
-        let before = rows_before misnamed_mode read_rows in
-        let exactly = given_exactly Unread _ of_packet (λ k. refl) refl misnamed_mode (omega arith) read_rows (read_rows_in_order mode interface words) in (
-          λ e. (let is = exactly.0 e in (clear_before unknown_type before is.0, (clear_at unknown_type before is.0, is.1))),
+        let before = rows_before MisnamedMode read_rows in
+        let exactly = given_exactly Err _ of_packet (λ k. refl) refl MisnamedMode (omega arith) read_rows (read_rows_in_order mode interface words) in (
+          λ e. (let is = exactly.0 e in (clear_before UnknownType before is.0, (clear_at UnknownType before is.0, is.1))),
           λ both. exactly.1 (
-            clear_whole unknown_type before both.0
+            clear_whole UnknownType before both.0
                 (both.1.0, (no_line mode interface read_type (second_in words) both.1.0 both.1.1, tt)),
             both.1.1,
           ),
         )
 
   module _ (r : Record) (type second start : ℕ) (run : List ℕ) where
-    abbrev write_rows : List Refusal
+    abbrev write_rows : List Cause
     write_rows = written_rows mode interface r type second start run
 
     pub written_refused_by_19 :
-        (written_of mode interface r type second start run ≡ Unwritten impossible_line)
+        (written_of mode interface r type second start run ≡ Err ImpossibleLine)
         ↔ ((uncounted mode ≡ false) × ((high_rate mode ≡ false) × (is_impossible_line interface type second ≡ true)))
     unfolding written_of
     written_refused_by_19 =
-        let before = rows_before impossible_line write_rows in
+        let before = rows_before ImpossibleLine write_rows in
         let exactly =
-        given_exactly Unwritten Done of_written (λ k. refl) refl impossible_line (omega arith) write_rows
+        given_exactly Err (Ok tt) of_written (λ k. refl) refl ImpossibleLine (omega arith) write_rows
         (written_rows_in_order mode interface r type second start run) in (
           λ e. (let is = exactly.0 e in
-              (clear_at unknown_mode before is.0, (low_mode mode interface type second (clear_at unknown_type before is.0) is.1, is.1))),
+              (clear_at UnknownMode before is.0, (low_mode mode interface type second (clear_at UnknownType before is.0) is.1, is.1))),
           λ both. exactly.1 ((both.0, (low_type mode interface type second both.1.0 both.1.1, tt)), both.1.1),
         )
 
     pub written_refused_by_23 :
-        (written_of mode interface r type second start run ≡ Unwritten misnamed_mode)
+        (written_of mode interface r type second start run ≡ Err MisnamedMode)
         ↔ ((uncounted mode ≡ false) × ((is_unknown_type mode type ≡ false) × (misnamed mode second ≡ true)))
     unfolding written_of
     written_refused_by_23 =
-        let before = rows_before misnamed_mode write_rows in
+        let before = rows_before MisnamedMode write_rows in
         let exactly =
-        given_exactly Unwritten Done of_written (λ k. refl) refl misnamed_mode (omega arith) write_rows
+        given_exactly Err (Ok tt) of_written (λ k. refl) refl MisnamedMode (omega arith) write_rows
         (written_rows_in_order mode interface r type second start run) in (
-          λ e. (let is = exactly.0 e in (clear_at unknown_mode before is.0, (clear_at unknown_type before is.0, is.1))),
+          λ e. (let is = exactly.0 e in (clear_at UnknownMode before is.0, (clear_at UnknownType before is.0, is.1))),
           λ both. exactly.1 ((both.0, (both.1.0, (no_line mode interface type second both.1.0 both.1.1, tt))), both.1.1),
         )

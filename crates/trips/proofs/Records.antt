@@ -9,8 +9,10 @@ use native.Mathlib.Omega.{arith}
 use lib.Dec.{ltb}
 use lib.ListN.{get_or, take}
 use borrow.Author.Tests.{ltb-false, le-ltb}
-use Rattle.refusals.specs.Table.{outside_the_clock, skipped_address, unused_bit_set}
-use Rattle.refusals.specs.Answer.{Refusal}
+use Rattle.refusals.specs.declared.types.Refusal.TheVariants.{OutsideTheClock, SkippedAddress, UnusedBitSet}
+use Rattle.std.specs.Prelude.{Err, Ok, Result}
+use Rattle.refusals.specs.declared.types.Refusal.{Refusal}
+use Rattle.refusals.specs.Answer.{Cause}
 use Rattle.refusals.proofs.Answered.{Clear, neither, otherwise_accepted, accepted_as}
 use Rattle.refusals.proofs.ByNumber.{clear_at}
 use Rattle.rates.specs.declared.types.Rate.{Rate}
@@ -19,9 +21,6 @@ use Rattle.rates.specs.declared.types.Flag.{Flag}
 use Rattle.rates.specs.declared.types.Flag.TheVariants.{No, Yes}
 use Rattle.record.specs.declared.types.Flags.{Flags}
 use Rattle.record.specs.declared.types.Record.{Record}
-use Rattle.record.specs.declared.types.Unpacked.{Unpacked}
-use Rattle.record.specs.declared.types.Unpacked.TheVariants.{Holds, Refused as Unheld}
-use Rattle.record.specs.declared.types.Packed.TheVariants.{Bits, Refused as Unpackable}
 use Rattle.layout.specs.Layout.{bits, join, split, layout}
 use Rattle.layout.specs.Flags.{flag_of, bit_of, flag_at, Places, places, unused_colour}
 use Rattle.record.specs.Record.{flags_held, record_of, standing_at, fields_of, info_of, digit_above_9, group_above_15, at_place}
@@ -169,9 +168,9 @@ clear_with :
 clear_with rate r bad unused other another good used clear =
     let rows = record_refusals rate bad unused r in
     let colour = unused_colour rate r.flags.colour in
-    let ten = neither (unused || colour) _ (clear_at unused_bit_set rows clear) in (
-      rw good (neither bad _ (clear_at outside_the_clock rows clear)).1,
-      (clear_at skipped_address rows clear, (rw (used, (neither unused colour ten.0).1) ten.1, tt)),
+    let ten = neither (unused || colour) _ (clear_at UnusedBitSet rows clear) in (
+      rw good (neither bad _ (clear_at OutsideTheClock rows clear)).1,
+      (clear_at SkippedAddress rows clear, (rw (used, (neither unused colour ten.0).1) ten.1, tt)),
     )
 
 -- a record whose place is said as it is, is itself
@@ -182,55 +181,55 @@ module _ (rate : Rate) (r : Record) (clear : Clear (write_refusals rate r)) wher
   -- it is of the first picture
   first : r.place ≡ 0
   first =
-      let ten = neither (ltb 0 r.place || unused_colour rate r.flags.colour) _ (clear_at unused_bit_set (write_refusals rate r) clear) in
+      let ten = neither (ltb 0 r.place || unused_colour rate r.flags.colour) _ (clear_at UnusedBitSet (write_refusals rate r) clear) in
       let none = ltb-false 0 r.place (neither (ltb 0 r.place) _ ten.0).0 in omega arith
 
   -- reading what was written gives the record
   pub read_of_written : (record_of rate (info_of rate r) ≡ r) × (digit_above_9 (info_of rate r) ≡ false)
   read_of_written = (read_back rate r (writable rate r clear) ∙ at_place_same r 0 first, no_digit_above_9 rate r (writable rate r clear))
 
-  unpacked : unpacked_of rate (info_of rate r) ≡ Holds r
+  unpacked : unpacked_of rate (info_of rate r) ≡ Ok r
   unfolding unpacked_of
   unpacked =
       let again = clear_with rate r (group_above_15 r.groups) (ltb 0 r.place) (digit_above_9 (info_of rate r)) false read_of_written.1 refl clear in
-      let rows : Record → List Refusal = λ s. record_refusals rate (digit_above_9 (info_of rate r)) false s in
-      otherwise_accepted Unheld _ (rows (record_of rate (info_of rate r))) (subst (λ (s : Record). Clear (rows s)) (sym read_of_written.0) again)
-      ∙ ap Holds read_of_written.0
+      let rows : Record → List Cause = λ s. record_refusals rate (digit_above_9 (info_of rate r)) false s in
+      otherwise_accepted Err _ (rows (record_of rate (info_of rate r))) (subst (λ (s : Record). Clear (rows s)) (sym read_of_written.0) again)
+      ∙ ap Ok read_of_written.0
 
 module _ (rate : Rate) (n : ℕ) (low : n < 2 ^ 64) (clear : Clear (bits_refusals rate n)) where
   -- writing what was read gives the same bits
   pub written_of_read : (info_of rate (record_of rate n) ≡ n) × (group_above_15 (record_of rate n).groups ≡ false)
-  written_of_read = (info_again rate n low (neither (digit_above_9 n) _ (clear_at outside_the_clock (bits_refusals rate n) clear)).0, no_group_above_15 rate n)
+  written_of_read = (info_again rate n low (neither (digit_above_9 n) _ (clear_at OutsideTheClock (bits_refusals rate n) clear)).0, no_group_above_15 rate n)
 
-  packed : packed_of rate (record_of rate n) ≡ Bits n
+  packed : packed_of rate (record_of rate n) ≡ Ok n
   unfolding packed_of record_of
   packed =
       let again = clear_with rate (record_of rate n) (digit_above_9 n) false (group_above_15 (record_of rate n).groups) false written_of_read.1 refl clear in
-      otherwise_accepted Unpackable _ (write_refusals rate (record_of rate n)) again ∙ ap Bits written_of_read.0
+      otherwise_accepted Err _ (write_refusals rate (record_of rate n)) again ∙ ap Ok written_of_read.0
 
-pub no_bits : {n : ℕ} (k : ℕ) → Unpackable k ≡ Bits n → ⊥
+pub no_bits : {n : ℕ} (k : Refusal) → Err k ≡ Ok n → ⊥
 no_bits k e = let z : ◌≡◌ {A = ℕ} 0 1 = cc in omega arith
 
-pub no_record : {r : Record} (k : ℕ) → Unheld k ≡ Holds r → ⊥
+pub no_record : {r : Record} (k : Refusal) → Err k ≡ Ok r → ⊥
 no_record k e = let z : ◌≡◌ {A = ℕ} 0 1 = cc in omega arith
 
-abbrev pub record_held : Record → Unpacked → Record
-record_held r (Holds s) = s
-record_held r (Unheld n) = r
+abbrev pub record_held : Record → Result Record Refusal → Record
+record_held r (Ok s) = s
+record_held r (Err n) = r
 
 -- said of the calls: a record makes 64 bits exactly where those bits hold the record
-pub one_to_one : (rate : Rate) (n : ℕ) (r : Record) → n < 2 ^ 64 → packed_of rate r ≡ Bits n ↔ unpacked_of rate n ≡ Holds r
+pub one_to_one : (rate : Rate) (n : ℕ) (r : Record) → n < 2 ^ 64 → packed_of rate r ≡ Ok n ↔ unpacked_of rate n ≡ Ok r
 unfolding packed_of unpacked_of
 one_to_one rate n r low = (there, back)
   where
-    there : packed_of rate r ≡ Bits n → unpacked_of rate n ≡ Holds r
+    there : packed_of rate r ≡ Ok n → unpacked_of rate n ≡ Ok r
     there e =
-        let taken = accepted_as Unpackable _ (write_refusals rate r) (Bits n) no_bits e in
+        let taken = accepted_as Err _ (write_refusals rate r) (Ok n) no_bits e in
         let same : info_of rate r ≡ n = cc taken.1 in
-        subst (λ (m : ℕ). unpacked_of rate m ≡ Holds r) same (unpacked rate r taken.0)
+        subst (λ (m : ℕ). unpacked_of rate m ≡ Ok r) same (unpacked rate r taken.0)
 
-    back : unpacked_of rate n ≡ Holds r → packed_of rate r ≡ Bits n
+    back : unpacked_of rate n ≡ Ok r → packed_of rate r ≡ Ok n
     back e =
-        let taken = accepted_as Unheld _ (bits_refusals rate n) (Holds r) no_record e in
+        let taken = accepted_as Err _ (bits_refusals rate n) (Ok r) no_record e in
         let same : record_of rate n ≡ r = cc taken.1 in
-        subst (λ (s : Record). packed_of rate s ≡ Bits n) same (packed rate n low taken.0)
+        subst (λ (s : Record). packed_of rate s ≡ Ok n) same (packed rate n low taken.0)

@@ -7,8 +7,9 @@ use mathlib.Core.List.{List}
 use mathlib.Core.Logic.{◌↔◌}
 use native.Mathlib.Omega.{arith}
 use borrow.Author.Tests.{leb-true, lt-ltb, leb-false}
-use Rattle.refusals.specs.Table.{outside_the_clock, skipped_address, unused_bit_set}
-use Rattle.refusals.specs.Answer.{Refusal}
+use Rattle.std.specs.Prelude.{Err, Ok}
+use Rattle.refusals.specs.declared.types.Refusal.TheVariants.{OutsideTheClock, SkippedAddress, UnusedBitSet}
+use Rattle.refusals.specs.Answer.{Cause}
 use Rattle.refusals.proofs.Answered.{Clear, neither, otherwise_accepted, accepted_as}
 use Rattle.refusals.proofs.ByNumber.{clear_at}
 use Rattle.rates.specs.declared.types.Rate.{Rate}
@@ -19,8 +20,6 @@ use Rattle.rates.specs.Refused.{refusals_besides}
 use Rattle.layout.specs.Flags.{flag_of}
 use Rattle.pictures.specs.Pictures.{place_outside}
 use Rattle.record.specs.declared.types.Record.{Record}
-use Rattle.record.specs.declared.types.Unpacked.TheVariants.{Holds, Refused as Unheld}
-use Rattle.record.specs.declared.types.Packed.TheVariants.{Bits, Refused as Unpackable}
 use Rattle.record.specs.Record.{record_of, info_of, digit_above_9, group_above_15}
 use Rattle.record.proofs.Accepted.{writable}
 use Rattle.modes.specs.Modes.{high_rate, rate_at, pictures_at}
@@ -127,19 +126,19 @@ spread_again pictures rate n unset =
 
 module _ (rate : Rate) (pictures : ℕ) (several : 1 < pictures) (few : pictures ≤ 8) where
   -- what the bits of a held record are refused with
-  abbrev held_rows : Bool → Record → List Refusal
+  abbrev held_rows : Bool → Record → List Cause
   held_rows digit held =
       refusals_besides (digit || place_outside pictures (place_in pictures held.flags)) (other_set pictures held.flags) rate held.flags.drop held.address
 
-  unpacked : (r : Record) → Clear (write_refusals rate pictures r) → unpacked_of rate pictures (info_of rate (spread pictures r)) ≡ Holds r
+  unpacked : (r : Record) → Clear (write_refusals rate pictures r) → unpacked_of rate pictures (info_of rate (spread pictures r)) ≡ Ok r
   unfolding unpacked_of
   unpacked r clear =
       let rows = write_refusals rate pictures r in
       let s = spread pictures r in
       let info = info_of rate s in
-      let eight = neither (place_outside pictures r.place || group_above_15 r.groups) _ (clear_at outside_the_clock rows clear) in
+      let eight = neither (place_outside pictures r.place || group_above_15 r.groups) _ (clear_at OutsideTheClock rows clear) in
       let bad = neither (place_outside pictures r.place) (group_above_15 r.groups) eight.0 in
-      let ten = neither (flag_besides_drop r.flags) _ (clear_at unused_bit_set rows clear) in
+      let ten = neither (flag_besides_drop r.flags) _ (clear_at UnusedBitSet rows clear) in
       let place = below pictures r.place several bad.0 in
       let fits = writable rate (bare r) (bare_clear rate r bad.1 eight.1) in
       let held : record_of rate info ≡ s = read_back rate s fits in
@@ -147,42 +146,42 @@ module _ (rate : Rate) (pictures : ℕ) (several : 1 < pictures) (few : pictures
       let said = place_again pictures few r place in
       let stands : Clear (held_rows (digit_above_9 info) s) = (
         rw (digit, said, bad.0) eight.1,
-        (clear_at skipped_address rows clear, (rw (third_clear (two_bits pictures) r.place) ten.1, tt)),
+        (clear_at SkippedAddress rows clear, (rw (third_clear (two_bits pictures) r.place) ten.1, tt)),
       ) in
-      otherwise_accepted Unheld _ (bits_refusals rate pictures info) (subst (λ (h : Record). Clear (held_rows (digit_above_9 info) h)) (sym held) stands)
-      ∙ ap (λ (h : Record). Holds (gathered pictures h)) held
-      ∙ ap Holds (gathered_again pictures few r place ten.0)
+      otherwise_accepted Err _ (bits_refusals rate pictures info) (subst (λ (h : Record). Clear (held_rows (digit_above_9 info) h)) (sym held) stands)
+      ∙ ap (λ (h : Record). Ok (gathered pictures h)) held
+      ∙ ap Ok (gathered_again pictures few r place ten.0)
 
-  packed : (n : ℕ) → n < 2 ^ 64 → Clear (bits_refusals rate pictures n) → packed_of rate pictures (gathered pictures (record_of rate n)) ≡ Bits n
+  packed : (n : ℕ) → n < 2 ^ 64 → Clear (bits_refusals rate pictures n) → packed_of rate pictures (gathered pictures (record_of rate n)) ≡ Ok n
   unfolding packed_of
   packed n low clear =
       let rows = bits_refusals rate pictures n in
       let held = record_of rate n in
-      let eight = neither (digit_above_9 n || place_outside pictures (place_in pictures held.flags)) _ (clear_at outside_the_clock rows clear) in
+      let eight = neither (digit_above_9 n || place_outside pictures (place_in pictures held.flags)) _ (clear_at OutsideTheClock rows clear) in
       let bad = neither (digit_above_9 n) _ eight.0 in
-      let ten = neither (other_set pictures held.flags) _ (clear_at unused_bit_set rows clear) in
+      let ten = neither (other_set pictures held.flags) _ (clear_at UnusedBitSet rows clear) in
       let stands : Clear (write_refusals rate pictures (gathered pictures held)) =
-      (rw (bad.1, no_group_above_15 rate n) eight.1, (clear_at skipped_address rows clear, (ten.1, tt))) in
-      otherwise_accepted Unpackable _ (write_refusals rate pictures (gathered pictures held)) stands
-      ∙ ap Bits (ap (info_of rate) (spread_again pictures rate n ten.0) ∙ info_again rate n low bad.0)
+      (rw (bad.1, no_group_above_15 rate n) eight.1, (clear_at SkippedAddress rows clear, (ten.1, tt))) in
+      otherwise_accepted Err _ (write_refusals rate pictures (gathered pictures held)) stands
+      ∙ ap Ok (ap (info_of rate) (spread_again pictures rate n ten.0) ∙ info_again rate n low bad.0)
 
-  pub one_to_one : (n : ℕ) (r : Record) → n < 2 ^ 64 → packed_of rate pictures r ≡ Bits n ↔ unpacked_of rate pictures n ≡ Holds r
+  pub one_to_one : (n : ℕ) (r : Record) → n < 2 ^ 64 → packed_of rate pictures r ≡ Ok n ↔ unpacked_of rate pictures n ≡ Ok r
   unfolding packed_of unpacked_of
   one_to_one n r low = (there, back)
     where
-      there : packed_of rate pictures r ≡ Bits n → unpacked_of rate pictures n ≡ Holds r
+      there : packed_of rate pictures r ≡ Ok n → unpacked_of rate pictures n ≡ Ok r
       there e =
-          let taken = accepted_as Unpackable _ (write_refusals rate pictures r) (Bits n) no_bits e in
+          let taken = accepted_as Err _ (write_refusals rate pictures r) (Ok n) no_bits e in
           let same : info_of rate (spread pictures r) ≡ n = cc taken.1 in
-          subst (λ (m : ℕ). unpacked_of rate pictures m ≡ Holds r) same (unpacked r taken.0)
+          subst (λ (m : ℕ). unpacked_of rate pictures m ≡ Ok r) same (unpacked r taken.0)
 
-      back : unpacked_of rate pictures n ≡ Holds r → packed_of rate pictures r ≡ Bits n
+      back : unpacked_of rate pictures n ≡ Ok r → packed_of rate pictures r ≡ Ok n
       back e =
-          let taken = accepted_as Unheld _ (bits_refusals rate pictures n) (Holds r) no_record e in
-          subst (λ (s : Record). packed_of rate pictures s ≡ Bits n) (ap (record_held r) taken.1) (packed n low taken.0)
+          let taken = accepted_as Err _ (bits_refusals rate pictures n) (Ok r) no_record e in
+          subst (λ (s : Record). packed_of rate pictures s ≡ Ok n) (ap (record_held r) taken.1) (packed n low taken.0)
 
 -- and so by mode, in every mode of a high frame rate
-pub high_one_to_one : (mode : ℕ) → high_rate mode ≡ true → (n : ℕ) (r : Record) → n < 2 ^ 64 → (packed_in mode r ≡ Bits n) ↔ (unpacked_in mode n ≡ Holds r)
+pub high_one_to_one : (mode : ℕ) → high_rate mode ≡ true → (n : ℕ) (r : Record) → n < 2 ^ 64 → (packed_in mode r ≡ Ok n) ↔ (unpacked_in mode n ≡ Ok r)
 unfolding packed_in unpacked_in packed_of unpacked_of
 high_one_to_one mode high n r low =
     let within = (high_exactly mode).0 high in

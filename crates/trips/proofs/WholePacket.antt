@@ -9,8 +9,8 @@ use lib.Dec.{eqb}
 use lib.ListN.{length, length-map, take, drop, get_or, length-append, length-drop, take-append-drop, drop_of_length-le}
 use lib.Seq.{take_at, drop_at, length-take-le, drop-drop, drop-cons, take-add, take-append-le, drop-append-le, get_or_at}
 use borrow.Author.Tests.{eq-eqb, eqb-true, not-false}
-use Rattle.refusals.specs.Table.{element_too_high, wrong_sync, wrong_check, low_bits_set}
-use Rattle.refusals.specs.Answer.{Refusal}
+use Rattle.refusals.specs.declared.types.Refusal.TheVariants.{ElementTooHigh, LowBitsSet, WrongCheck, WrongSync}
+use Rattle.refusals.specs.Answer.{Cause}
 use Rattle.refusals.proofs.Answered.{Clear, neither}
 use Rattle.refusals.proofs.ByNumber.{clear_at}
 use Rattle.bits.specs.Bits.{to_bits, some_above, AllBits}
@@ -140,7 +140,7 @@ eight_bits words eight =
 
 -- words that have the form of a packet are those that are written for what they hold
 module _ (mode : ℕ) (words : List ℕ) (clear : Clear (form_refusals mode words)) where
-  abbrev rows : List Refusal
+  abbrev rows : List Cause
   rows = form_refusals mode words
 
   abbrev parts : List ℕ
@@ -151,11 +151,11 @@ module _ (mode : ℕ) (words : List ℕ) (clear : Clear (form_refusals mode word
 
   pub begins : take 6 words ≡ header mode
   unfolding is_headed
-  begins = same_elements (take 6 words) (header mode) (not-false (is_headed mode words) (clear_at wrong_sync rows clear))
+  begins = same_elements (take 6 words) (header mode) (not-false (is_headed mode words) (clear_at WrongSync rows clear))
 
   five : (some_word wrong_word parts ≡ false) × (get_or words 22 0 ≡ checksum_of words)
   five =
-      let tests = neither (some_word wrong_word parts) (not (eqb (get_or words 22 0) (checksum_of words))) (clear_at wrong_check rows clear) in
+      let tests = neither (some_word wrong_word parts) (not (eqb (get_or words 22 0) (checksum_of words))) (clear_at WrongCheck rows clear) in
       (tests.0, eqb-true (get_or words 22 0) (checksum_of words) (not-false _ tests.1))
 
   ends : drop 16 (drop 6 words) ≡ sum
@@ -185,8 +185,8 @@ module _ (mode : ℕ) (words : List ℕ) (clear : Clear (form_refusals mode word
   front_again : front_of mode (info_in parts) (type_in words) (second_in words) ≡ header mode ++ parts
   unfolding front_of
   front_again =
-      let within = within_take 1023 16 (drop 6 words) (within_drop 1023 6 words (clear_at element_too_high rows clear)) in
-      rw carried_again (ap (λ (l : List ℕ). header mode ++ l) (all_again parts within five.0 (clear_at low_bits_set rows clear)))
+      let within = within_take 1023 16 (drop 6 words) (within_drop 1023 6 words (clear_at ElementTooHigh rows clear)) in
+      rw carried_again (ap (λ (l : List ℕ). header mode ++ l) (all_again parts within five.0 (clear_at LowBitsSet rows clear)))
 
   pub packet_again : packet_with mode (info_in parts) (type_in words) (second_in words) ≡ words
   unfolding packet_with

@@ -7,15 +7,14 @@ use mathlib.Core.List.{List}
 use lib.Dec.{eqb}
 use lib.ListN.{length}
 use borrow.Author.Tests.{eqb-true, not-false}
-use Rattle.refusals.specs.Table.{wrong_length, unknown_mode, element_too_high}
-use Rattle.refusals.specs.declared.types.Verdict.{Verdict}
-use Rattle.refusals.specs.declared.types.Verdict.TheVariants.{Sound, Refused as Unsound}
+use Rattle.refusals.specs.declared.types.Refusal.{Refusal}
+use Rattle.std.specs.Prelude.{Err, Ok, Result}
+use Rattle.refusals.specs.declared.types.Refusal.TheVariants.{ElementTooHigh, UnknownMode, WrongLength}
+use Rattle.record.specs.declared.types.Record.{Record}
 use Rattle.refusals.specs.Answer.{verdict_of}
 use Rattle.refusals.proofs.Answered.{Clear, otherwise_accepted}
 use Rattle.refusals.proofs.ByNumber.{clear_at}
 use Rattle.refusals.proofs.Verdicts.{refused_by, sound_clear}
-use Rattle.record.specs.declared.types.Unpacked.{Unpacked}
-use Rattle.record.specs.declared.types.Unpacked.TheVariants.{Refused as Unheld}
 use Rattle.modes.specs.Modes.{unknown}
 use Rattle.modes.specs.declared.types.Shows.TheVariants.{ByMark}
 use Rattle.modes.specs.Shown.{shown_in}
@@ -24,24 +23,24 @@ use Rattle.interval.specs.Calls.{form_refusals}
 use Rattle.vitc.specs.Asked.{BitRun}
 use Rattle.vitc.specs.Calls.{read_of}
 
-module _ (mode : ℕ) (line : List ℕ) (found : Verdict) (judged : found ≡ verdict_of (form_refusals mode line)) where
-  pub refused : (n : ℕ) → found ≡ Unsound n → Unheld n ≡ read_of mode line
+module _ (mode : ℕ) (line : List ℕ) (found : Result Unit Refusal) (judged : found ≡ verdict_of (form_refusals mode line)) where
+  pub refused : (n : Refusal) → found ≡ Err n → Err n ≡ read_of mode line
   unfolding read_of
-  refused n e = refused_by Unheld _ (form_refusals mode line) found judged n e
+  refused n e = refused_by Err _ (form_refusals mode line) found judged n e
 
-  module _ (sound : found ≡ Sound) where
+  module _ (sound : found ≡ Ok tt) where
     clear : Clear (form_refusals mode line)
-    clear = sound_clear Unheld (Unheld 0) (form_refusals mode line) found judged sound
+    clear = sound_clear (form_refusals mode line) found judged sound
 
     pub bit_run : BitRun 90 line
     bit_run =
         record {
-          long = eqb-true (length line) 90 (not-false (eqb (length line) 90) (clear_at wrong_length (form_refusals mode line) clear));
-          clean = clear_at element_too_high (form_refusals mode line) clear;
+          long = eqb-true (length line) 90 (not-false (eqb (length line) 90) (clear_at WrongLength (form_refusals mode line) clear));
+          clean = clear_at ElementTooHigh (form_refusals mode line) clear;
         }
 
-    pub by_record : (info : ℕ) → info ≡ info_in line → (a : Unpacked) → a ≡ shown_in mode ByMark info → a ≡ read_of mode line
+    pub by_record : (info : ℕ) → info ≡ info_in line → (a : Result Record Refusal) → a ≡ shown_in mode ByMark info → a ≡ read_of mode line
     unfolding read_of shown_in
     by_record info is a told =
-        let known : unknown mode ≡ false = clear_at unknown_mode (form_refusals mode line) clear in
-        (rw (is, known) at told) ∙ sym (otherwise_accepted Unheld _ (form_refusals mode line) clear)
+        let known : unknown mode ≡ false = clear_at UnknownMode (form_refusals mode line) clear in
+        (rw (is, known) at told) ∙ sym (otherwise_accepted Err _ (form_refusals mode line) clear)

@@ -4,9 +4,9 @@ ghost use Rattle.interval.specs.Line.{info_in};
 ghost use Rattle.vitc.specs.Asked.{BitRun};
 ghost use Rattle.vitc.specs.Calls.{read_of};
 
+use record::Record;
 use modes::Shows;
-use record::Unpacked;
-use refusals::Verdict;
+use refusals::Refusal;
 
 // The 64 information bits, each from its place.
 fn information(line: &[u8]) -> u64
@@ -23,12 +23,12 @@ fn information(line: &[u8]) -> u64
     number
 }
 
-pub fn read(mode: u8, line: &[u8]) -> Unpacked
+pub fn read(mode: u8, line: &[u8]) -> Result<Record, Refusal>
     ensures { result ≡ read_of mode line.now }
 {
     let found = interval::judge(mode, line);
     match found {
-        Verdict::Refused(number) => Unpacked::Refused(number),
-        Verdict::Sound => modes::picture_from_bits(mode, Shows::ByMark, information(line)),
+        Err(number) => Err(number),
+        Ok(()) => modes::picture_from_bits(mode, Shows::ByMark, information(line)),
     }
 }

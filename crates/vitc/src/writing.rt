@@ -3,15 +3,15 @@ ghost use Rattle.std.specs.Prelude.{◌≡◌};
 ghost use Rattle.vitc.specs.Calls.{written_of, run_of};
 
 use modes::Shows;
-use record::{Packed, Record};
-use runs::Written;
+use record::Record;
+use refusals::Refusal;
 
-pub fn write(mode: u8, r: Record, start: usize, run: &mut [u8]) -> Written
+pub fn write(mode: u8, r: Record, start: usize, run: &mut [u8]) -> Result<(), Refusal>
     ensures { (result ≡ written_of mode r start run.old) × (run.new ≡ run_of mode r start run.old) }
 {
     let packed = modes::picture_to_bits(mode, Shows::ByMark, r);
     match packed {
-        Packed::Refused(number) => Written::Refused(number),
-        Packed::Bits(info) => interval::place(info, start, run),
+        Err(number) => Err(number),
+        Ok(info) => interval::place(info, start, run),
     }
 }

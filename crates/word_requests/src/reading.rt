@@ -1,29 +1,30 @@
 // Reads of linear words, vertical interval lines and packets.
 ghost use Rattle.std.specs.Prelude.{◌≤◌, length};
 
+use atc::Contents;
+use record::Record;
 use crate::faces::face_told;
 use crate::types::{Carrier, Face};
 use answers::{put_byte, put_read, put_record, put_refused};
-use atc::Packet;
 use polarity::Word;
-use record::Unpacked;
 use requests::{LONGEST_LINE, bits_at, byte, is_end, number_at, words_at};
+use refusals::Refusal;
 
-fn put_unpacked(out: &mut [u8], unpacked: Unpacked) -> usize
+fn put_unpacked(out: &mut [u8], unpacked: Result<Record, Refusal>) -> usize
     ensures { result ≤ length out.old }
 {
     match unpacked {
-        Unpacked::Refused(number) => put_refused(out, number),
-        Unpacked::Holds(record) => put_record(out, record),
+        Err(number) => put_refused(out, number),
+        Ok(record) => put_record(out, record),
     }
 }
 
-fn put_word(out: &mut [u8], word: Word) -> usize
+fn put_word(out: &mut [u8], word: Result<Word, Refusal>) -> usize
     ensures { result ≤ length out.old }
 {
     match word {
-        Word::Refused(number) => put_refused(out, number),
-        Word::Holds(record, found) => put_read(out, record, found),
+        Err(number) => put_refused(out, number),
+        Ok(record, found) => put_read(out, record, found),
     }
 }
 
@@ -36,12 +37,12 @@ fn put_bits_read(carrier: Carrier, mode: u8, run: &[u8], out: &mut [u8]) -> usiz
     }
 }
 
-fn put_packet(out: &mut [u8], packet: Packet) -> usize
+fn put_packet(out: &mut [u8], packet: Result<Contents, Refusal>) -> usize
     ensures { result ≤ length out.old }
 {
     match packet {
-        Packet::Refused(number) => put_refused(out, number),
-        Packet::Holds(contents) => {
+        Err(number) => put_refused(out, number),
+        Ok(contents) => {
             let record = contents.record;
             let after_record = put_record(out, record);
             let after_type = put_byte(out, after_record, contents.payload_type);

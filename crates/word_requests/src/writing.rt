@@ -6,13 +6,13 @@ use crate::types::{Carrier, Face};
 use answers::{put_bits, put_refused, put_text, put_words};
 use polarity::Found;
 use requests::{MOST_NUMBERS, Numbers, byte, number_at, record_in, take_numbers};
-use runs::Written;
+use refusals::Refusal;
 
 // What a write was refused with, and 0 where it wrote.
-fn refusal(written: Written) -> u8 {
+fn refusal(written: Result<(), Refusal>) -> u8 {
     match written {
-        Written::Done => 0,
-        Written::Refused(number) => number,
+        Ok(()) => 0,
+        Err(number) => number,
     }
 }
 

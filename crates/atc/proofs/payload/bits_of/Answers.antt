@@ -3,8 +3,9 @@
 use Prim.Native.Nat.{ℕ}
 use mathlib.Core.Path.{◌≡◌, sym, ◌∙◌}
 use mathlib.Core.Bool.{Bool, true, false}
+use Rattle.std.specs.Prelude.{Result}
+use Rattle.refusals.specs.declared.types.Refusal.{Refusal}
 use Rattle.record.specs.declared.types.Record.{Record}
-use Rattle.record.specs.declared.types.Packed.{Packed}
 use Rattle.modes.specs.declared.types.Shows.{Shows}
 use Rattle.modes.specs.Modes.{high_rate}
 use Rattle.modes.specs.Shown.{carried_in}
@@ -13,7 +14,7 @@ use Rattle.atc.specs.Records.{shows_by, made_for}
 use Rattle.atc.proofs.Families.{high_made, low_made}
 use Rattle.atc.proofs.payload.bits_of.Goals as goal
 
-module _ (mode type : ℕ) (r : Record) (high : Bool) (asked : high ≡ high_rate mode) (given : Packed) where
+module _ (mode type : ℕ) (r : Record) (high : Bool) (asked : high ≡ high_rate mode) (given : Result ℕ Refusal) where
   by_sub_frames : high ≡ true → given ≡ packed_in mode r → given ≡ made_for mode type r
   by_sub_frames t told = told ∙ high_made mode type (sym asked ∙ t) r
 

@@ -3,7 +3,9 @@
 use Prim.Native.Nat.{ℕ}
 use mathlib.Core.Path.{◌≡◌, sym, ◌∙◌}
 use mathlib.Core.Bool.{Bool, true, false}
-use Rattle.record.specs.declared.types.Unpacked.{Unpacked}
+use Rattle.record.specs.declared.types.Record.{Record}
+use Rattle.refusals.specs.declared.types.Refusal.{Refusal}
+use Rattle.std.specs.Prelude.{Result}
 use Rattle.modes.specs.declared.types.Shows.{Shows}
 use Rattle.modes.specs.Modes.{high_rate}
 use Rattle.modes.specs.Shown.{shown_in}
@@ -12,7 +14,7 @@ use Rattle.atc.specs.Records.{shows_by, held_for}
 use Rattle.atc.proofs.Families.{high_held, low_held}
 use Rattle.atc.proofs.payload.record_in.Goals as goal
 
-module _ (mode type info : ℕ) (high : Bool) (asked : high ≡ high_rate mode) (given : Unpacked) where
+module _ (mode type info : ℕ) (high : Bool) (asked : high ≡ high_rate mode) (given : Result Record Refusal) where
   by_sub_frames : high ≡ true → given ≡ unpacked_in mode info → given ≡ held_for mode type info
   by_sub_frames t told = told ∙ high_held mode type (sym asked ∙ t) info
 

@@ -18,7 +18,8 @@ use Rattle.rates.specs.Rates.{is_yes, frames_in_second, frames_in_day}
 use Rattle.clock.specs.Counting.{count_of, address_at}
 use Rattle.rates.specs.Refused.{refusals_of}
 use Rattle.clock.specs.Calls.{plus_of}
-use Rattle.refusals.proofs.Verdicts.{passed_on, refused_by, passed_by}
+use Rattle.refusals.proofs.Results.{passed_on}
+use Rattle.refusals.proofs.Verdicts.{refused_by, passed_by}
 use Rattle.rates.proofs.Sizes.{some_day, day_small, last_and_one}
 use Rattle.clock.proofs.addresses.add.Goals as goal
 

@@ -9,7 +9,8 @@ use Rattle.rates.specs.declared.types.Address.{Address}
 use Rattle.refusals.specs.Answer.{verdict_of}
 use Rattle.rates.specs.Refused.{refusals_of}
 use Rattle.clock.specs.Calls.{fields_of}
-use Rattle.refusals.proofs.Verdicts.{passed_on, refused_by, passed_by}
+use Rattle.refusals.proofs.Results.{passed_on}
+use Rattle.refusals.proofs.Verdicts.{refused_by, passed_by}
 use Rattle.clock.proofs.addresses.address_from.Goals as goal
 
 module _ (rate : Rate) (drop : Flag) (a : Address) (found : Result Unit Refusal) (judged : found ≡ verdict_of (refusals_of rate drop a)) where

@@ -21,7 +21,8 @@ use Rattle.rates.specs.Rates.{is_yes, frames_in_second, frames_in_day}
 use Rattle.clock.specs.Counting.{count_of}
 use Rattle.rates.specs.Refused.{refusals_of_two}
 use Rattle.clock.specs.Calls.{span_of}
-use Rattle.refusals.proofs.Verdicts.{passed_on, refused_by, passed_by}
+use Rattle.refusals.proofs.Results.{passed_on}
+use Rattle.refusals.proofs.Verdicts.{refused_by, passed_by}
 use Rattle.rates.proofs.Sizes.{day_small, some_day, last_and_one}
 use Rattle.clock.proofs.Sizes.{count_small}
 use Rattle.clock.proofs.numbers.distance.Goals as goal

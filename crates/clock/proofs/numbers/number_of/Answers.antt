@@ -14,7 +14,8 @@ use Rattle.rates.specs.Rates.{is_yes, frames_in_second}
 use Rattle.clock.specs.Counting.{count_of}
 use Rattle.rates.specs.Refused.{refusals_of}
 use Rattle.clock.specs.Calls.{number_of}
-use Rattle.refusals.proofs.Verdicts.{passed_on, refused_by, passed_by}
+use Rattle.refusals.proofs.Results.{passed_on}
+use Rattle.refusals.proofs.Verdicts.{refused_by, passed_by}
 use Rattle.clock.proofs.numbers.number_of.Goals as goal
 
 module _ (rate : Rate) (drop : Flag) (a : Address) (found : Result Unit Refusal) (judged : found ≡ verdict_of (refusals_of rate drop a)) where

@@ -4,10 +4,11 @@ use mathlib.Core.Path.{◌≡◌, ap, sym, ◌∙◌}
 use Prim.Native.Nat.{ℕ, ◌^◌, ◌≤◌, ◌<◌}
 use borrow.Author.Tests.{ne_eqb}
 use borrow.Author.Rules.{rules}
+use Rattle.polarity.specs.declared.types.Word.{Word}
+use Rattle.refusals.specs.declared.types.Refusal.{Refusal}
+use Rattle.std.specs.Prelude.{Err, Result}
 use Rattle.record.specs.declared.types.Record.{Record}
 use Rattle.polarity.specs.declared.types.Found.{Found}
-use Rattle.polarity.specs.declared.types.Word.{Word}
-use Rattle.polarity.specs.declared.types.Word.TheVariants.{Holds, Refused as Unheld}
 use Rattle.polarity.specs.Heard.{heard_of}
 use Rattle.register.specs.declared.types.Reader.{Reader}
 use Rattle.register.specs.Held.{held_bits}
@@ -30,19 +31,19 @@ module _ (r : Reader) where
   unfolding heard_in
   no_sync high other heard is = rw (other_hears_nothing r (upper r high ∙ ne_eqb r.sync 0xbffc other)) is
 
-  module _ (low : r.info < 2 ^ 64) (seen : r.sync ≡ 0xbffc) (h : 80 ≤ r.held) (word : Word) (read : word ≡ heard_of r.mode r.info) where
+  module _ (low : r.info < 2 ^ 64) (seen : r.sync ≡ 0xbffc) (h : 80 ≤ r.held) (word : Result Word Refusal) (read : word ≡ heard_of r.mode r.info) where
     heard_is : or_else (told word) (backward_in r.mode r.ways (held_bits r)) ≡ heard_in r.mode r.ways (held_bits r)
     unfolding heard_in
     heard_is =
         ap (λ (heard : Heard). or_else heard (backward_in r.mode r.ways (held_bits r))) (ap told read ∙ sym (full_hears r low seen h))
 
     accepted :
-        (held : Record) (found : Found) → word ≡ Holds held found → (heard : Heard) → heard ≡ Accepted (reporting held found Forward)
+        (held : Record) (found : Found) → word ≡ Ok (reading held found) → (heard : Heard) → heard ≡ Accepted (reporting held found Forward)
         → heard ≡ heard_in r.mode r.ways (held_bits r)
-    accepted held found e heard is = is ∙ ap (λ (w : Word). or_else (told w) (backward_in r.mode r.ways (held_bits r))) (sym e) ∙ heard_is
+    accepted held found e heard is = is ∙ ap (λ (w : Result Word Refusal). or_else (told w) (backward_in r.mode r.ways (held_bits r))) (sym e) ∙ heard_is
 
-    refused : (n : ℕ) → word ≡ Unheld n → Refused n ≡ heard_in r.mode r.ways (held_bits r)
-    refused n e = ap (λ (w : Word). or_else (told w) (backward_in r.mode r.ways (held_bits r))) (sym e) ∙ heard_is
+    refused : (n : Refusal) → word ≡ Err n → Refused n ≡ heard_in r.mode r.ways (held_bits r)
+    refused n e = ap (λ (w : Result Word Refusal). or_else (told w) (backward_in r.mode r.ways (held_bits r))) (sym e) ∙ heard_is
 
 pub returns-then-reader-ne49148 : goal.returns-then-reader-ne49148
 returns-then-reader-ne49148 c = search (no_sync, rules)

@@ -5,11 +5,12 @@ use mathlib.Core.List.{reverse}
 use Prim.Native.Nat.{ℕ, ◌+◌, ◌*◌, ◌/◌, ◌%◌, ◌^◌, ◌≤◌, ◌<◌}
 use borrow.Author.Tests.{ne_eqb}
 use borrow.Author.Rules.{rules}
+use Rattle.polarity.specs.declared.types.Word.{Word}
+use Rattle.refusals.specs.declared.types.Refusal.{Refusal}
+use Rattle.std.specs.Prelude.{Err, Result}
 use Rattle.bits.specs.Bits.{value, to_bits}
 use Rattle.record.specs.declared.types.Record.{Record}
 use Rattle.polarity.specs.declared.types.Found.{Found}
-use Rattle.polarity.specs.declared.types.Word.{Word}
-use Rattle.polarity.specs.declared.types.Word.TheVariants.{Holds, Refused as Unheld}
 use Rattle.polarity.specs.Heard.{heard_of}
 use Rattle.register.specs.declared.types.Reader.{Reader}
 use Rattle.register.specs.declared.types.Ways.TheVariants.{Both}
@@ -31,16 +32,16 @@ module _ (r : Reader) where
 
     module _
         (seen : r.info % 0x10000 ≡ 0x3ffd) (h : 80 ≤ r.held) (info : ℕ) (turns : info ≡ value (reverse (to_bits 64 (r.info / 0x10000 + 2 ^ 48 * r.sync))))
-        (word : Word) (read : word ≡ heard_of r.mode info) where
+        (word : Result Word Refusal) (read : word ≡ heard_of r.mode info) where
       heard_is : told_backward Both word ≡ backward_in r.mode Both (held_bits r)
       heard_is = ap (told_backward Both) read ∙ sym (full_turned r low high info turns seen h Both)
 
       accepted :
-          (held : Record) (found : Found) → word ≡ Holds held found → (heard : Heard) → heard ≡ Accepted (reporting held found Backward)
+          (held : Record) (found : Found) → word ≡ Ok (reading held found) → (heard : Heard) → heard ≡ Accepted (reporting held found Backward)
           → heard ≡ backward_in r.mode Both (held_bits r)
       accepted held found e heard told = told ∙ ap (told_backward Both) (sym e) ∙ heard_is
 
-      passed_over : (n : ℕ) → word ≡ Unheld n → Nothing ≡ backward_in r.mode Both (held_bits r)
+      passed_over : (n : Refusal) → word ≡ Err n → Nothing ≡ backward_in r.mode Both (held_bits r)
       passed_over n e = ap (told_backward Both) (sym e) ∙ heard_is
 
 pub returns-then-oldest-ne16381 : goal.returns-then-oldest-ne16381

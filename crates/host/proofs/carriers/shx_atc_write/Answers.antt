@@ -4,8 +4,9 @@ use Prim.Native.Nat.{ℕ}
 use mathlib.Core.Path.{◌≡◌, refl, ap, ◌∙◌}
 use mathlib.Core.Bool.{Bool, true, false, ◌||◌}
 use mathlib.Core.List.{List, []}
+use Rattle.refusals.specs.declared.types.Refusal.{Refusal}
+use Rattle.std.specs.Prelude.{Result}
 use Rattle.record.specs.declared.types.Record.{Record}
-use Rattle.runs.specs.declared.types.Written.{Written}
 use Rattle.atc.specs.declared.types.Interface.{Interface}
 use Rattle.atc.specs.Calls as atc
 use Rattle.plain.specs.declared.types.PlainContents.{PlainContents}
@@ -28,7 +29,7 @@ module _ (mode : ℕ) (interface : ℕ) (c : PlainContents) (start : ℕ) (run :
       (rw (← asked, ← tested) e) k (is ∙ ap after_mode known)
 
   wrote :
-      (odd || unnamed) ≡ false → (face : Interface) (given : Record) (w : Written) (n : ℕ) (out : List ℕ) → face ≡ interface_given interface → given ≡ record_given c.«record»
+      (odd || unnamed) ≡ false → (face : Interface) (given : Record) (w : Result Unit Refusal) (n : ℕ) (out : List ℕ) → face ≡ interface_given interface → given ≡ record_given c.«record»
       → (w ≡ atc.written_of mode face given c.payload_type c.second start run) × (out ≡ atc.run_of mode face given c.payload_type c.second start run) → n ≡ written_code w
       → (n ≡ atc_written mode interface c start run) × (out ≡ atc_run mode interface c start run)
   unfolding atc_written atc_run atc.written_of atc.run_of

@@ -4,8 +4,9 @@ use Prim.Native.Nat.{ℕ}
 use mathlib.Core.Path.{◌≡◌, refl, ap, ◌∙◌}
 use mathlib.Core.Bool.{Bool, true, false, ◌||◌}
 use mathlib.Core.List.{List, []}
+use Rattle.refusals.specs.declared.types.Refusal.{Refusal}
+use Rattle.std.specs.Prelude.{Result}
 use Rattle.record.specs.declared.types.Record.{Record}
-use Rattle.runs.specs.declared.types.Written.{Written}
 use Rattle.polarity.specs.declared.types.Found.{Found}
 use Rattle.polarity.specs.Word.{word_of}
 use Rattle.ltc.specs.Calls as ltc
@@ -29,7 +30,7 @@ module _ (mode : ℕ) (r : PlainRecord) (make : ℕ) (start : ℕ) (run : List �
       (rw (← asked, ← tested) e) k (is ∙ ap after_mode known)
 
   wrote :
-      (odd || unmade) ≡ false → (given : Record) (made : Found) (w : Written) (n : ℕ) (out : List ℕ) → given ≡ record_given r → made ≡ make_given make
+      (odd || unmade) ≡ false → (given : Record) (made : Found) (w : Result Unit Refusal) (n : ℕ) (out : List ℕ) → given ≡ record_given r → made ≡ make_given make
       → (w ≡ ltc.written_of mode given start run) × (out ≡ ltc.run_of mode given made start run) → n ≡ written_code w
       → (n ≡ ltc_written mode r make start run) × (out ≡ ltc_run mode r make start run)
   unfolding ltc_written ltc_run ltc.written_of ltc.run_of ltc.written_rows

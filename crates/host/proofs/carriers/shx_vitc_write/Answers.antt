@@ -4,8 +4,9 @@ use Prim.Native.Nat.{ℕ}
 use mathlib.Core.Path.{◌≡◌, refl, ap, ◌∙◌}
 use mathlib.Core.Bool.{Bool, true, false}
 use mathlib.Core.List.{List, []}
+use Rattle.refusals.specs.declared.types.Refusal.{Refusal}
+use Rattle.std.specs.Prelude.{Result}
 use Rattle.record.specs.declared.types.Record.{Record}
-use Rattle.runs.specs.declared.types.Written.{Written}
 use Rattle.vitc.specs.Calls as vitc
 use Rattle.plain.specs.declared.types.PlainRecord.{PlainRecord}
 use Rattle.modes.specs.Modes.{unknown, with_mode}
@@ -27,7 +28,7 @@ module _ (mode : ℕ) (r : PlainRecord) (start : ℕ) (run : List ℕ) (odd : Bo
       (rw (← asked) e) k (is ∙ ap after_mode known)
 
   wrote :
-      odd ≡ false → (given : Record) (w : Written) (n : ℕ) (out : List ℕ) → given ≡ record_given r
+      odd ≡ false → (given : Record) (w : Result Unit Refusal) (n : ℕ) (out : List ℕ) → given ≡ record_given r
       → (w ≡ vitc.written_of mode given start run) × (out ≡ vitc.run_of mode given start run) → n ≡ written_code w
       → (n ≡ vitc_written mode r start run) × (out ≡ vitc_run mode r start run)
   unfolding vitc_written vitc_run vitc.written_of

@@ -5,7 +5,7 @@ use mathlib.Core.Path.{◌≡◌, refl, ap, ◌∙◌}
 use mathlib.Core.Bool.{Bool, true, false}
 use mathlib.Core.List.{[], ◌∷◌}
 use lib.Dec.{ltb}
-use Rattle.refusals.specs.Table.{element_too_high}
+use Rattle.refusals.specs.declared.types.Refusal.TheVariants.{ElementTooHigh}
 use Rattle.refusals.specs.Answer.{◌when◌}
 use Rattle.register.specs.declared.types.Reader.{Reader}
 use Rattle.hearing.specs.declared.types.Heard.TheVariants.{Refused as Unheard}
@@ -34,7 +34,7 @@ module _ (r : PlainReader) (element : ℕ) (none : Bool) (tested : none ≡ no_w
   unfolding step_for stepped_of
   fed e given s a from is told =
       let same : s ≡ stepped_of (reader_given r) element = is ∙ rw from in
-      answered step_answer step_with (λ reader n. after reader (Unheard n)) r (λ n. refl) none tested e ((element_too_high when ltb 1 element) ∷ []) (feed_refusals (reader_given r) element) refl (bit_taken (reader_given r) element) a (told ∙ ap step_answer same)
+      answered step_answer step_with (λ reader n. after reader (Unheard n)) r (λ n. refl) none tested e ((ElementTooHigh when ltb 1 element) ∷ []) (feed_refusals (reader_given r) element) refl (bit_taken (reader_given r) element) a (told ∙ ap step_answer same)
 
 pub returns-then-is_no_ways : goal.returns-then-is_no_ways
 returns-then-is_no_ways c = search turned

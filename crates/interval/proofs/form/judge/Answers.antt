@@ -7,7 +7,8 @@ use mathlib.Core.Bool.{Bool, true, false, not, ◌||◌}
 use mathlib.Core.List.{List}
 use lib.ListN.{length}
 use borrow.Author.Tests.{not-true, not-false}
-use Rattle.refusals.specs.declared.types.Verdict.TheVariants.{Sound, Refused as Unsound}
+use Rattle.std.specs.Prelude.{Err, Ok}
+use Rattle.refusals.specs.declared.types.Refusal.TheVariants.{WrongCheck}
 use Rattle.refusals.specs.Answer.{verdict_of}
 use Rattle.refusals.proofs.Answered.{neither}
 use Rattle.bits.specs.Bits.{some_above}
@@ -21,13 +22,13 @@ use Rattle.interval.proofs.form.judge.Goals as goal
 module _
     (mode : ℕ) (line : List ℕ) (long : length line ≡ 90) (past high pair check : Bool) (e2 : past ≡ unknown mode) (known : past ≡ false)
     (e3 : high ≡ some_above 1 line) (e4 : pair ≡ wrong_pair line) (e5 : check ≡ wrong_crc line) where
-  nothing : not ((high || pair) || check) ≡ true → Sound ≡ verdict_of (form_refusals mode line)
+  nothing : not ((high || pair) || check) ≡ true → Ok tt ≡ verdict_of (form_refusals mode line)
   nothing t =
       let early = neither (high || pair) check (not-true ((high || pair) || check) t) in
       let first = neither high pair early.0 in
       all_sound mode line long past e2 known high e3 first.0 pair e4 first.1 check e5 early.1
 
-  last : not ((high || pair) || check) ≡ false → high ≡ false → pair ≡ false → Unsound 5 ≡ verdict_of (form_refusals mode line)
+  last : not ((high || pair) || check) ≡ false → high ≡ false → pair ≡ false → Err WrongCheck ≡ verdict_of (form_refusals mode line)
   last some low paired =
       let left : check ≡ true = rw (low, paired) at (not-false ((high || pair) || check) some) in
       bad_check mode line long past e2 known high e3 low pair e4 paired check e5 left

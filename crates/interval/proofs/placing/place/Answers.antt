@@ -8,8 +8,8 @@ use mathlib.Core.List.{List}
 use lib.ListN.{length}
 use borrow.Author.Rules.{rules}
 use borrow.Rule.Slice.PartMut.{put_mid}
-use Rattle.refusals.specs.Table.{no_room}
-use Rattle.runs.specs.declared.types.Written.TheVariants.{Done, Refused as Unwritten}
+use Rattle.std.specs.Prelude.{Err, Ok}
+use Rattle.refusals.specs.declared.types.Refusal.TheVariants.{NoRoom}
 use Rattle.runs.specs.Run.{lacks_room, room_refusals}
 use Rattle.runs.proofs.Outcomes.{Outcome, turned_away, written_there, room_told}
 use Rattle.interval.specs.Line.{line_with}
@@ -18,11 +18,11 @@ use Rattle.interval.proofs.placing.place.Goals as goal
 use Rattle.interval.proofs.placing.place.Goals.{Else-lacks_room}
 
 module _ (info start : ℕ) (run : List ℕ) (full : Bool) (measured : full ≡ lacks_room 90 start (length run)) where
-  crowded : full ≡ true → Outcome (room_refusals 90 start run) start (line_with info) run (Unwritten 12) run
-  crowded t = turned_away (room_refusals 90 start run) start (line_with info) run no_room tt (sym measured ∙ t)
+  crowded : full ≡ true → Outcome (room_refusals 90 start run) start (line_with info) run (Err NoRoom) run
+  crowded t = turned_away (room_refusals 90 start run) start (line_with info) run NoRoom tt (sym measured ∙ t)
 
   done : full ≡ false → (part : List ℕ) → part ≡ line_with info
-      → Outcome (room_refusals 90 start run) start (line_with info) run Done (put_mid start ((start + 90) - start) run part)
+      → Outcome (room_refusals 90 start run) start (line_with info) run (Ok tt) (put_mid start ((start + 90) - start) run part)
   done f part made =
       written_there (room_refusals 90 start run) start (line_with info) run (sym measured ∙ f, tt) 90 (length_line info) part made
 

@@ -6,6 +6,7 @@ use mathlib.Core.Path.{◌≡◌, refl, sym}
 use mathlib.Core.List.{List, ◌++◌}
 use native.Mathlib.Omega.{arith}
 use lib.ListN.{length}
+use Rattle.refusals.specs.declared.types.Refusal.{Refusal}
 use Rattle.hearing.specs.declared.types.Report.{Report}
 use Rattle.hearing.specs.declared.types.Heard.{Heard}
 use Rattle.hearing.specs.declared.types.Heard.TheVariants.{Nothing, Accepted, Refused}
@@ -43,7 +44,7 @@ module _ (bits : ℕ) (text : List ℕ) {p : ℕ} {mid : List ℕ} (long : 48 �
     accepted report e = told (accepted_text report.«record») (rw e)
 
     refused :
-        (number : ℕ) → heard ≡ Refused number → Stands (refused_text number) p mid q out
+        (number : Refusal) → heard ≡ Refused number → Stands (refused_text number) p mid q out
         → (q ≡ length (line_of bits heard)) × (out ≡ placed 0 (line_of bits heard) text)
     unfolding line_of
     refused number e = told (refused_text number) (rw e)

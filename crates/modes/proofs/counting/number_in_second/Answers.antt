@@ -3,10 +3,12 @@
 use mathlib.Core.Path.{◌≡◌}
 use mathlib.Core.Bool.{Bool, true, false}
 use Prim.Native.Nat.{ℕ, ◌+◌}
+use Rattle.std.specs.Prelude.{Err, Result}
+use Rattle.refusals.specs.declared.types.Refusal.TheVariants.{UnknownMode}
+use Rattle.pictures.specs.declared.types.PictureInSecond.{PictureInSecond}
+use Rattle.refusals.specs.declared.types.Refusal.{Refusal}
 use Rattle.rates.specs.declared.types.Rate.{Rate}
 use Rattle.rates.specs.declared.types.Flag.{Flag}
-use Rattle.pictures.specs.declared.types.InSecond.{InSecond}
-use Rattle.pictures.specs.declared.types.InSecond.TheVariants.{Refused as Uncounted}
 use Rattle.pictures.specs.declared.types.Picture.{Picture}
 use Rattle.pictures.specs.Calls.{in_second_of}
 use Rattle.modes.specs.Modes.{uncounted, rate_at, pictures_at}
@@ -15,16 +17,16 @@ use Rattle.modes.proofs.InMode.{turned_away, by_its_row}
 use Rattle.modes.proofs.counting.number_in_second.Goals as goal
 
 module _ (mode : ℕ) (drop : Flag) (p : Picture) (past : Bool) (asked : past ≡ uncounted mode) where
-  no_mode : past ≡ true → Uncounted 2 ≡ in_second_in mode drop p
+  no_mode : past ≡ true → Err UnknownMode ≡ in_second_in mode drop p
   unfolding in_second_in
-  no_mode e = turned_away Uncounted mode (λ rate pictures. in_second_of rate pictures drop p) past asked e
+  no_mode e = turned_away Err mode (λ rate pictures. in_second_of rate pictures drop p) past asked e
 
   known :
-      past ≡ false → (rate : Rate) (last : ℕ) (given : InSecond) → rate ≡ rate_at mode → last + 1 ≡ pictures_at mode
+      past ≡ false → (rate : Rate) (last : ℕ) (given : Result PictureInSecond Refusal) → rate ≡ rate_at mode → last + 1 ≡ pictures_at mode
       → given ≡ in_second_of rate (last + 1) drop p → given ≡ in_second_in mode drop p
   unfolding in_second_in
   known e rate last given at share told =
-      by_its_row Uncounted mode (λ rate pictures. in_second_of rate pictures drop p) past asked e rate last given at share told
+      by_its_row Err mode (λ rate pictures. in_second_of rate pictures drop p) past asked e rate last given at share told
 
 pub returns-then-is_uncounted : goal.returns-then-is_uncounted
 returns-then-is_uncounted c = search no_mode

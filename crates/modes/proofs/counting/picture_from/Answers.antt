@@ -3,11 +3,12 @@
 use mathlib.Core.Path.{◌≡◌}
 use mathlib.Core.Bool.{Bool, true, false}
 use Prim.Native.Nat.{ℕ, ◌+◌}
+use Rattle.std.specs.Prelude.{Err, Result}
+use Rattle.refusals.specs.declared.types.Refusal.TheVariants.{UnknownMode}
+use Rattle.refusals.specs.declared.types.Refusal.{Refusal}
 use Rattle.rates.specs.declared.types.Rate.{Rate}
 use Rattle.rates.specs.declared.types.Flag.{Flag}
 use Rattle.pictures.specs.declared.types.Picture.{Picture}
-use Rattle.pictures.specs.declared.types.Pictured.{Pictured}
-use Rattle.pictures.specs.declared.types.Pictured.TheVariants.{Refused as Unpictured}
 use Rattle.pictures.specs.Calls.{fields_of}
 use Rattle.modes.specs.Modes.{uncounted, rate_at, pictures_at}
 use Rattle.modes.specs.Calls.{fields_in}
@@ -15,16 +16,16 @@ use Rattle.modes.proofs.InMode.{turned_away, by_its_row}
 use Rattle.modes.proofs.counting.picture_from.Goals as goal
 
 module _ (mode : ℕ) (drop : Flag) (p : Picture) (past : Bool) (asked : past ≡ uncounted mode) where
-  no_mode : past ≡ true → Unpictured 2 ≡ fields_in mode drop p
+  no_mode : past ≡ true → Err UnknownMode ≡ fields_in mode drop p
   unfolding fields_in
-  no_mode e = turned_away Unpictured mode (λ rate pictures. fields_of rate pictures drop p) past asked e
+  no_mode e = turned_away Err mode (λ rate pictures. fields_of rate pictures drop p) past asked e
 
   known :
-      past ≡ false → (rate : Rate) (last : ℕ) (given : Pictured) → rate ≡ rate_at mode → last + 1 ≡ pictures_at mode
+      past ≡ false → (rate : Rate) (last : ℕ) (given : Result Picture Refusal) → rate ≡ rate_at mode → last + 1 ≡ pictures_at mode
       → given ≡ fields_of rate (last + 1) drop p → given ≡ fields_in mode drop p
   unfolding fields_in
   known e rate last given at share told =
-      by_its_row Unpictured mode (λ rate pictures. fields_of rate pictures drop p) past asked e rate last given at share told
+      by_its_row Err mode (λ rate pictures. fields_of rate pictures drop p) past asked e rate last given at share told
 
 pub returns-then-is_uncounted : goal.returns-then-is_uncounted
 returns-then-is_uncounted c = search no_mode

@@ -3,20 +3,22 @@
 use mathlib.Core.Path.{◌≡◌, ◌∙◌}
 use mathlib.Core.Bool.{Bool, true, false}
 use Prim.Native.Nat.{ℕ}
+use Rattle.std.specs.Prelude.{Err, Result}
+use Rattle.refusals.specs.declared.types.Refusal.TheVariants.{UnknownMode}
+use Rattle.record.specs.declared.types.Record.{Record}
+use Rattle.refusals.specs.declared.types.Refusal.{Refusal}
 use Rattle.rates.specs.declared.types.Rate.{Rate}
-use Rattle.record.specs.declared.types.Unpacked.{Unpacked}
-use Rattle.record.specs.declared.types.Unpacked.TheVariants.{Refused as Unheld}
 use Rattle.record.specs.Calls.{unpacked_of}
 use Rattle.modes.specs.Modes.{unknown, rate_at}
 use Rattle.modes.specs.Calls.{unpacked_in}
 use Rattle.modes.proofs.packing.from_bits.Goals as goal
 
 module _ (mode : ℕ) (info : ℕ) (past : Bool) (asked : past ≡ unknown mode) where
-  no_mode : past ≡ true → Unheld 2 ≡ unpacked_in mode info
+  no_mode : past ≡ true → Err UnknownMode ≡ unpacked_in mode info
   unfolding unpacked_in
   no_mode e = rw (← asked, e)
 
-  known : past ≡ false → (rate : Rate) (given : Unpacked) → rate ≡ rate_at mode → given ≡ unpacked_of rate info → given ≡ unpacked_in mode info
+  known : past ≡ false → (rate : Rate) (given : Result Record Refusal) → rate ≡ rate_at mode → given ≡ unpacked_of rate info → given ≡ unpacked_in mode info
   unfolding unpacked_in unpacked_of
   known e rate given at told = told ∙ rw (← asked, e, at)
 

@@ -2,9 +2,9 @@
 -- Assumes nothing.
 use mathlib.Core.Path.{◌≡◌, sym, ap, ◌∙◌}
 use Prim.Native.Nat.{ℕ}
+use Rattle.refusals.specs.declared.types.Refusal.{Refusal}
+use Rattle.std.specs.Prelude.{Err, Ok, Result}
 use Rattle.record.specs.declared.types.Record.{Record}
-use Rattle.record.specs.declared.types.Unpacked.{Unpacked}
-use Rattle.record.specs.declared.types.Unpacked.TheVariants.{Holds, Refused as Unheld}
 use Rattle.record.specs.Record.{at_place}
 use Rattle.modes.specs.declared.types.Shows.{Shows}
 use Rattle.modes.specs.Calls.{unpacked_in}
@@ -12,16 +12,16 @@ use Rattle.modes.specs.Shown.{place_shown, shown_in}
 use Rattle.modes.proofs.Shown.{shown_as, shown_is}
 use Rattle.modes.proofs.showing.picture_from_bits.Goals as goal
 
-module _ (mode : ℕ) (shows : Shows) (info : ℕ) (held : Unpacked) (asked : held ≡ unpacked_in mode info) where
+module _ (mode : ℕ) (shows : Shows) (info : ℕ) (held : Result Record Refusal) (asked : held ≡ unpacked_in mode info) where
   told : shown_as mode shows held ≡ shown_in mode shows info
   told = ap (shown_as mode shows) asked ∙ sym (shown_is mode shows info)
 
-  refused : (n : ℕ) → held ≡ Unheld n → Unheld n ≡ shown_in mode shows info
+  refused : (n : Refusal) → held ≡ Err n → Err n ≡ shown_in mode shows info
   refused n e = ap (shown_as mode shows) (sym e) ∙ told
 
   placed :
-      (r : Record) → held ≡ Holds r → (place : ℕ) → place ≡ place_shown mode shows r.flags.mark → (s : Record) → s ≡ at_place place r
-      → Holds s ≡ shown_in mode shows info
+      (r : Record) → held ≡ Ok r → (place : ℕ) → place ≡ place_shown mode shows r.flags.mark → (s : Record) → s ≡ at_place place r
+      → Ok s ≡ shown_in mode shows info
   placed r e place shown s made = rw (made, shown) (ap (shown_as mode shows) (sym e) ∙ told)
 
 pub returns-in-Refused : goal.returns-in-Refused

@@ -4,17 +4,18 @@ use mathlib.Core.Path.{◌≡◌}
 use mathlib.Core.Bool.{Bool, true, false, not}
 use Prim.Native.Nat.{ℕ, ◌+◌, ◌-◌}
 use native.Mathlib.Omega.{arith}
+use Rattle.std.specs.Prelude.{Err}
+use Rattle.refusals.specs.declared.types.Refusal.TheVariants.{UnknownMode}
 use Rattle.rates.specs.declared.types.Rate.{Rate}
-use Rattle.modes.specs.declared.types.Rowed.TheVariants.{Known, Refused}
 use Rattle.modes.specs.Modes.{high_rate, rate_at, pictures_at, high_row_of}
 use Rattle.modes.proofs.table.high_row_of.Goals as goal
 
 module _ (mode : ℕ) (high : Bool) (asked : high ≡ high_rate mode) where
-  no_mode : not high ≡ true → Refused 2 ≡ high_row_of mode
+  no_mode : not high ≡ true → Err UnknownMode ≡ high_row_of mode
   unfolding high_row_of
   no_mode e = rw (← asked, e)
 
-  known : not high ≡ false → (rate : Rate) (last : ℕ) → rate ≡ rate_at mode → last + 1 ≡ pictures_at mode → Known rate last ≡ high_row_of mode
+  known : not high ≡ false → (rate : Rate) (last : ℕ) → rate ≡ rate_at mode → last + 1 ≡ pictures_at mode → Ok (high_row rate last) ≡ high_row_of mode
   unfolding high_row_of
   known e rate last at share = let place : last ≡ pictures_at mode - 1 = omega arith in rw (at, place, ← asked, e)
 

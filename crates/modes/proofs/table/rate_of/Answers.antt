@@ -3,17 +3,18 @@
 use mathlib.Core.Path.{◌≡◌}
 use mathlib.Core.Bool.{Bool, true, false}
 use Prim.Native.Nat.{ℕ}
+use Rattle.std.specs.Prelude.{Err, Ok}
+use Rattle.refusals.specs.declared.types.Refusal.TheVariants.{UnknownMode}
 use Rattle.rates.specs.declared.types.Rate.{Rate}
-use Rattle.modes.specs.declared.types.Rated.TheVariants.{Known, Refused}
 use Rattle.modes.specs.Modes.{unknown, rate_at, rated_of}
 use Rattle.modes.proofs.table.rate_of.Goals as goal
 
 module _ (mode : ℕ) (past : Bool) (asked : past ≡ unknown mode) where
-  no_mode : past ≡ true → Refused 2 ≡ rated_of mode
+  no_mode : past ≡ true → Err UnknownMode ≡ rated_of mode
   unfolding rated_of
   no_mode e = rw (← asked, e)
 
-  known : past ≡ false → (rate : Rate) → rate ≡ rate_at mode → Known rate ≡ rated_of mode
+  known : past ≡ false → (rate : Rate) → rate ≡ rate_at mode → Ok rate ≡ rated_of mode
   unfolding rated_of
   known e rate at = rw (at, ← asked, e)
 

@@ -8,9 +8,9 @@ use mathlib.Core.List.{List}
 use lib.ListN.{length}
 use borrow.Author.Rules.{rules}
 use borrow.Rule.Slice.PartMut.{put_mid}
-use Rattle.refusals.specs.Table.{unknown_mode, no_room}
-use Rattle.refusals.specs.Answer.{Refusal}
-use Rattle.runs.specs.declared.types.Written.TheVariants.{Done, Refused as Unwritten}
+use Rattle.std.specs.Prelude.{Err, Ok}
+use Rattle.refusals.specs.declared.types.Refusal.TheVariants.{NoRoom, UnknownMode}
+use Rattle.refusals.specs.Answer.{Cause}
 use Rattle.runs.specs.Run.{lacks_room, room_refusals}
 use Rattle.runs.proofs.Outcomes.{Outcome, turned_away, written_there, room_told}
 use Rattle.modes.specs.Modes.{uncounted}
@@ -21,22 +21,22 @@ use Rattle.packets.proofs.placing.place.Goals as goal
 use Rattle.packets.proofs.placing.place.Goals.{Else-lacks_room}
 
 module _ (mode info type second start : ℕ) (run : List ℕ) (past : Bool) (asked : past ≡ uncounted mode) where
-  abbrev rows : List Refusal
+  abbrev rows : List Cause
   rows = place_refusals mode start run
 
-  no_mode : past ≡ true → Outcome rows start (packet_with mode info type second) run (Unwritten 2) run
-  no_mode t = turned_away rows start (packet_with mode info type second) run unknown_mode tt (sym asked ∙ t)
+  no_mode : past ≡ true → Outcome rows start (packet_with mode info type second) run (Err UnknownMode) run
+  no_mode t = turned_away rows start (packet_with mode info type second) run UnknownMode tt (sym asked ∙ t)
 
   module _ (known : past ≡ false) (full : Bool) (measured : full ≡ lacks_room 23 start (length run)) where
     -- the mode is counted, so 12 is the first that can apply
     counted : uncounted mode ≡ false
     counted = sym asked ∙ known
 
-    crowded : full ≡ true → Outcome rows start (packet_with mode info type second) run (Unwritten 12) run
-    crowded t = rw counted (turned_away (room_refusals 23 start run) start (packet_with mode info type second) run no_room tt (sym measured ∙ t))
+    crowded : full ≡ true → Outcome rows start (packet_with mode info type second) run (Err NoRoom) run
+    crowded t = rw counted (turned_away (room_refusals 23 start run) start (packet_with mode info type second) run NoRoom tt (sym measured ∙ t))
 
     done : full ≡ false → (part : List ℕ) → part ≡ packet_with mode info type second
-        → Outcome rows start (packet_with mode info type second) run Done (put_mid start ((start + 23) - start) run part)
+        → Outcome rows start (packet_with mode info type second) run (Ok tt) (put_mid start ((start + 23) - start) run part)
     done f part made =
         written_there rows start (packet_with mode info type second) run (counted, (sym measured ∙ f, tt)) 23 (length_packet mode info type second) part made
 

@@ -3,7 +3,8 @@
 use mathlib.Core.Path.{◌≡◌, ◌∙◌}
 use mathlib.Core.Bool.{Bool, ◌||◌}
 use Prim.Native.Nat.{ℕ, ◌+◌}
-use Rattle.refusals.specs.declared.types.Verdict.{Verdict}
+use Rattle.refusals.specs.declared.types.Refusal.{Refusal}
+use Rattle.std.specs.Prelude.{Result}
 use Rattle.refusals.specs.Answer.{verdict_of}
 use Rattle.rates.specs.declared.types.Rate.{Rate}
 use Rattle.rates.specs.declared.types.Flag.{Flag}
@@ -14,7 +15,7 @@ use Rattle.pictures.specs.Calls.{two_refusals}
 use Rattle.pictures.proofs.judging.judge_two.Goals as goal
 
 judged :
-    (rate : Rate) (last : ℕ) (drop : Flag) (p q : Picture) (out out' unused unused' : Bool) (found : Verdict)
+    (rate : Rate) (last : ℕ) (drop : Flag) (p q : Picture) (out out' unused unused' : Bool) (found : Result Unit Refusal)
     → out ≡ place_outside (last + 1) p.place → out' ≡ place_outside (last + 1) q.place
     → unused ≡ place_unused (last + 1) p.place → unused' ≡ place_unused (last + 1) q.place
     → found ≡ verdict_of (refusals_of_two_besides (out || out') (unused || unused') rate drop p.address q.address)

@@ -24,10 +24,10 @@ module _ (rate : Rate) (last day : ℕ) (drop : Bool) (whole : day ≡ frames_in
   and_one few = (rw (← whole) (omega (arith, some)), omega (arith, fits few))
 
 pub overflow_mul-result : goal.overflow_mul-result
-overflow_mul-result c = omega (arith, fits c.args.rate c.args.last _ c.args.drop c.frames_in_day.ensures (search rules))
+overflow_mul-result c = omega (arith, fits c.args.counting.rate c.args.counting.last _ c.args.drop c.frames_in_day.ensures (search rules))
 
 pub overflow_sub-result : goal.overflow_sub-result
 overflow_sub-result c = search some
 
 pub returns : goal.returns
-returns c = and_one c.args.rate c.args.last _ c.args.drop c.frames_in_day.ensures (search rules)
+returns c = and_one c.args.counting.rate c.args.counting.last _ c.args.drop c.frames_in_day.ensures (search rules)

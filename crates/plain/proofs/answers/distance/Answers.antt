@@ -4,16 +4,16 @@ use mathlib.Core.Path.{◌≡◌}
 use Prim.Native.Nat.{ℕ}
 use lib.IntN.{ℤ, pos}
 use mir.Facts.{to_z-of_z}
-use Rattle.clock.specs.declared.types.Span.{Span}
-use Rattle.clock.specs.declared.types.Span.TheVariants.{Frames, Refused as Unmeasured}
+use Rattle.std.specs.Prelude.{Err, Ok, Result}
+use Rattle.refusals.specs.declared.types.Refusal.{Refusal}
 use Rattle.plain.specs.Answers.{distance_answer}
 use Rattle.plain.proofs.answers.distance.Goals as goal
 
-module _ (a : Span) where
-  given : (y z : ℤ) → a ≡ Frames z → y ≡ z → record { code = 0; pictures = y } ≡ distance_answer a
+module _ (a : Result ℤ Refusal) where
+  given : (y z : ℤ) → a ≡ Ok z → y ≡ z → record { code = 0; pictures = y } ≡ distance_answer a
   given y z e same = rw (e, same)
 
-  refused : (k : ℕ) → a ≡ Unmeasured k → record { code = k; pictures = pos 0 } ≡ distance_answer a
+  refused : (k : Refusal) → a ≡ Err k → record { code = k; pictures = pos 0 } ≡ distance_answer a
   refused k e = rw e
 
 pub returns-in-Frames : goal.returns-in-Frames

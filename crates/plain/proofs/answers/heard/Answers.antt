@@ -2,6 +2,7 @@
 -- Assumes nothing.
 use mathlib.Core.Path.{◌≡◌}
 use Prim.Native.Nat.{ℕ}
+use Rattle.refusals.specs.declared.types.Refusal.{Refusal}
 use Rattle.plain.specs.declared.types.PlainRecord.{PlainRecord}
 use Rattle.plain.specs.Shown.{record_shown}
 use Rattle.plain.specs.declared.types.PlainHeard.{PlainHeard}
@@ -17,7 +18,7 @@ module _ (a : Heard) where
     nothing : a ≡ Nothing → h ≡ heard_shown (Refused 0) → h ≡ heard_shown a
     nothing e is = rw e is
 
-    refused : (k : ℕ) → a ≡ Refused k → h ≡ heard_shown (Refused k) → h ≡ heard_shown a
+    refused : (k : Refusal) → a ≡ Refused k → h ≡ heard_shown (Refused k) → h ≡ heard_shown a
     refused k e is = rw e is
 
   accepted :

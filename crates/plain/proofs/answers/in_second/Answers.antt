@@ -2,17 +2,17 @@
 -- Assumes nothing.
 use mathlib.Core.Path.{◌≡◌}
 use Prim.Native.Nat.{ℕ}
+use Rattle.refusals.specs.declared.types.Refusal.{Refusal}
+use Rattle.std.specs.Prelude.{Err, Ok, Result}
 use Rattle.pictures.specs.declared.types.PictureInSecond.{PictureInSecond}
-use Rattle.pictures.specs.declared.types.InSecond.{InSecond}
-use Rattle.pictures.specs.declared.types.InSecond.TheVariants.{Number, Refused as Uncounted}
 use Rattle.plain.specs.Answers.{second_answer}
 use Rattle.plain.proofs.answers.in_second.Goals as goal
 
-module _ (a : InSecond) where
-  given : (n : PictureInSecond) → a ≡ Number n → record { code = 0; number = n.0 } ≡ second_answer a
+module _ (a : Result PictureInSecond Refusal) where
+  given : (n : PictureInSecond) → a ≡ Ok n → record { code = 0; number = n.0 } ≡ second_answer a
   given n e = rw e
 
-  refused : (k : ℕ) → a ≡ Uncounted k → record { code = k; number = 0 } ≡ second_answer a
+  refused : (k : Refusal) → a ≡ Err k → record { code = k; number = 0 } ≡ second_answer a
   refused k e = rw e
 
 pub returns-in-Number : goal.returns-in-Number

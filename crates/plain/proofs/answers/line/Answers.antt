@@ -2,19 +2,19 @@
 -- Assumes nothing.
 use mathlib.Core.Path.{◌≡◌}
 use Prim.Native.Nat.{ℕ}
+use Rattle.refusals.specs.declared.types.Refusal.{Refusal}
+use Rattle.std.specs.Prelude.{Err, Ok, Result}
 use Rattle.record.specs.declared.types.Record.{Record}
 use Rattle.plain.specs.declared.types.PlainRecord.{PlainRecord}
 use Rattle.plain.specs.Shown.{record_shown}
-use Rattle.record.specs.declared.types.Unpacked.{Unpacked}
-use Rattle.record.specs.declared.types.Unpacked.TheVariants.{Holds, Refused as Unheld}
 use Rattle.plain.specs.Answers.{no_record, line_answer}
 use Rattle.plain.proofs.answers.line.Goals as goal
 
-module _ (a : Unpacked) (s : PlainRecord) where
-  given : (r : Record) → a ≡ Holds r → s ≡ record_shown r → record { code = 100; «record» = s } ≡ line_answer a
+module _ (a : Result Record Refusal) (s : PlainRecord) where
+  given : (r : Record) → a ≡ Ok r → s ≡ record_shown r → record { code = 100; «record» = s } ≡ line_answer a
   given r e is = rw (e, is)
 
-  refused : (k : ℕ) → a ≡ Unheld k → s ≡ no_record → record { code = k; «record» = s } ≡ line_answer a
+  refused : (k : Refusal) → a ≡ Err k → s ≡ no_record → record { code = k; «record» = s } ≡ line_answer a
   refused k e is = rw (e, is)
 
 pub returns-in-Holds : goal.returns-in-Holds

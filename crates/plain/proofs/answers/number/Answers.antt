@@ -2,17 +2,17 @@
 -- Assumes nothing.
 use mathlib.Core.Path.{◌≡◌}
 use Prim.Native.Nat.{ℕ}
+use Rattle.refusals.specs.declared.types.Refusal.{Refusal}
+use Rattle.std.specs.Prelude.{Err, Ok, Result}
 use Rattle.clock.specs.declared.types.DayFrame.{DayFrame}
-use Rattle.clock.specs.declared.types.Numbered.{Numbered}
-use Rattle.clock.specs.declared.types.Numbered.TheVariants.{Number, Refused as Unnumbered}
 use Rattle.plain.specs.Answers.{number_answer}
 use Rattle.plain.proofs.answers.number.Goals as goal
 
-module _ (a : Numbered) where
-  given : (n : DayFrame) → a ≡ Number n → record { code = 0; number = n.0 } ≡ number_answer a
+module _ (a : Result DayFrame Refusal) where
+  given : (n : DayFrame) → a ≡ Ok n → record { code = 0; number = n.0 } ≡ number_answer a
   given n e = rw e
 
-  refused : (k : ℕ) → a ≡ Unnumbered k → record { code = k; number = 0 } ≡ number_answer a
+  refused : (k : Refusal) → a ≡ Err k → record { code = k; number = 0 } ≡ number_answer a
   refused k e = rw e
 
 pub returns-in-Number : goal.returns-in-Number

@@ -2,21 +2,21 @@
 -- Assumes nothing.
 use mathlib.Core.Path.{◌≡◌}
 use Prim.Native.Nat.{ℕ}
+use Rattle.refusals.specs.declared.types.Refusal.{Refusal}
+use Rattle.std.specs.Prelude.{Err, Ok, Result}
 use Rattle.plain.specs.declared.types.PlainRecord.{PlainRecord}
 use Rattle.plain.specs.Shown.{record_shown}
 use Rattle.atc.specs.declared.types.Contents.{Contents}
-use Rattle.atc.specs.declared.types.Packet.{Packet}
-use Rattle.atc.specs.declared.types.Packet.TheVariants.{Holds, Refused as Unopened}
 use Rattle.plain.specs.Answers.{no_record, contents_with, packet_answer}
 use Rattle.plain.proofs.answers.packet.Goals as goal
 
-module _ (a : Packet) (s : PlainRecord) where
+module _ (a : Result Contents Refusal) (s : PlainRecord) where
   given :
-      (c : Contents) → a ≡ Holds c → s ≡ record_shown c.«record»
+      (c : Contents) → a ≡ Ok c → s ≡ record_shown c.«record»
       → record { code = 100; contents = contents_with s c.payload_type c.second } ≡ packet_answer a
   given c e is = rw (e, is)
 
-  refused : (k : ℕ) → a ≡ Unopened k → s ≡ no_record → record { code = k; contents = contents_with s 0 0 } ≡ packet_answer a
+  refused : (k : Refusal) → a ≡ Err k → s ≡ no_record → record { code = k; contents = contents_with s 0 0 } ≡ packet_answer a
   refused k e is = rw (e, is)
 
 pub returns-in-Holds : goal.returns-in-Holds

@@ -2,19 +2,19 @@
 -- Assumes nothing.
 use mathlib.Core.Path.{◌≡◌}
 use Prim.Native.Nat.{ℕ}
+use Rattle.refusals.specs.declared.types.Refusal.{Refusal}
+use Rattle.std.specs.Prelude.{Err, Ok, Result}
 use Rattle.pictures.specs.declared.types.Picture.{Picture}
-use Rattle.pictures.specs.declared.types.Pictured.{Pictured}
-use Rattle.pictures.specs.declared.types.Pictured.TheVariants.{At, Refused as Unpictured}
 use Rattle.plain.specs.declared.types.PlainPicture.{PlainPicture}
 use Rattle.plain.specs.Shown.{picture_shown}
 use Rattle.plain.specs.Answers.{no_picture, picture_answer}
 use Rattle.plain.proofs.answers.picture.Goals as goal
 
-module _ (a : Pictured) where
-  given : (p : Picture) (q : PlainPicture) → a ≡ At p → q ≡ picture_shown p → record { code = 0; picture = q } ≡ picture_answer a
+module _ (a : Result Picture Refusal) where
+  given : (p : Picture) (q : PlainPicture) → a ≡ Ok p → q ≡ picture_shown p → record { code = 0; picture = q } ≡ picture_answer a
   given p q e is = rw (e, is)
 
-  refused : (k : ℕ) → a ≡ Unpictured k → record { code = k; picture = no_picture } ≡ picture_answer a
+  refused : (k : Refusal) → a ≡ Err k → record { code = k; picture = no_picture } ≡ picture_answer a
   refused k e = rw e
 
 pub returns-in-At : goal.returns-in-At

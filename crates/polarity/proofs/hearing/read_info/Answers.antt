@@ -3,30 +3,28 @@
 use mathlib.Core.Path.{◌≡◌, ap, ap₂, sym, ◌∙◌}
 use mathlib.Core.Bool.{Bool, true, false}
 use Prim.Native.Nat.{ℕ}
+use Rattle.refusals.specs.declared.types.Refusal.{Refusal}
+use Rattle.std.specs.Prelude.{Err, Ok, Result}
+use Rattle.refusals.specs.declared.types.Refusal.TheVariants.{UnknownMode, WrongCheck}
 use Rattle.rates.specs.declared.types.Flag.TheVariants.{No}
 use Rattle.rates.specs.declared.types.Rate.{Rate}
 use Rattle.record.specs.declared.types.Record.{Record}
-use Rattle.record.specs.declared.types.Unpacked.{Unpacked}
-use Rattle.record.specs.declared.types.Unpacked.TheVariants.{Holds as Held, Refused as Unheld}
 use Rattle.record.specs.Record.{marked}
-use Rattle.modes.specs.declared.types.Rated.{Rated}
-use Rattle.modes.specs.declared.types.Rated.TheVariants.{Known, Refused as Unrated}
 use Rattle.modes.specs.Modes.{unknown, rate_at, rated_of}
 use Rattle.modes.specs.Calls.{unpacked_in}
 use Rattle.modes.proofs.ByRate.{rate_told, rate_refused}
 use Rattle.polarity.specs.declared.types.Found.{Found}
-use Rattle.polarity.specs.declared.types.Word.TheVariants.{Holds, Refused}
 use Rattle.polarity.specs.Word.{word_with, miscorrected, found_in}
 use Rattle.polarity.specs.Heard.{heard_of}
 use Rattle.polarity.proofs.Heard.{with_found, heard_is}
 use Rattle.polarity.proofs.hearing.read_info.Goals as goal
 
-module _ (mode info : ℕ) (rated : Rated) (named : rated ≡ rated_of mode) where
-  no_mode : (n : ℕ) → rated ≡ Unrated n → Refused 2 ≡ heard_of mode info
+module _ (mode info : ℕ) (rated : Result Rate Refusal) (named : rated ≡ rated_of mode) where
+  no_mode : (n : Refusal) → rated ≡ Err n → Err UnknownMode ≡ heard_of mode info
   unfolding heard_of
   no_mode n e = rw (rate_refused mode rated named n e).0
 
-  module _ (rate : Rate) (is : rated ≡ Known rate) where
+  module _ (rate : Rate) (is : rated ≡ Ok rate) where
     own : (unknown mode ≡ false) × (rate_at mode ≡ rate)
     own = rate_told mode rated named rate is
 
@@ -34,20 +32,20 @@ module _ (mode info : ℕ) (rated : Rated) (named : rated ≡ rated_of mode) whe
       in_mode : wrong ≡ miscorrected (rate_at mode) (word_with info)
       in_mode = tested ∙ ap (λ (k : Rate). miscorrected k (word_with info)) (sym own.1)
 
-      by_5 : wrong ≡ true → Refused 5 ≡ heard_of mode info
+      by_5 : wrong ≡ true → Err WrongCheck ≡ heard_of mode info
       unfolding heard_of
       by_5 e = rw (own.0, ← in_mode, e)
 
-      module _ (right : wrong ≡ false) (held : Unpacked) (told : held ≡ unpacked_in mode info) where
+      module _ (right : wrong ≡ false) (held : Result Record Refusal) (told : held ≡ unpacked_in mode info) where
         heard : with_found (found_in (word_with info)) held ≡ heard_of mode info
         heard = ap (with_found (found_in (word_with info))) told ∙ sym (heard_is mode info (sym in_mode ∙ right))
 
-        refused : (n : ℕ) → held ≡ Unheld n → Refused n ≡ heard_of mode info
+        refused : (n : Refusal) → held ≡ Err n → Err n ≡ heard_of mode info
         refused n e = ap (with_found (found_in (word_with info))) (sym e) ∙ heard
 
         accepted :
-            (r s : Record) (found : Found) → held ≡ Held r → s ≡ marked No r → found ≡ found_in (word_with info) → Holds s found ≡ heard_of mode info
-        accepted r s found e taken_off looked = ap₂ Holds taken_off looked ∙ (ap (with_found (found_in (word_with info))) (sym e) ∙ heard)
+            (r s : Record) (found : Found) → held ≡ Ok r → s ≡ marked No r → found ≡ found_in (word_with info) → Ok (reading s found) ≡ heard_of mode info
+        accepted r s found e taken_off looked = ap₂ Ok (reading taken_off looked) ∙ (ap (with_found (found_in (word_with info))) (sym e) ∙ heard)
 
 pub returns-in_default : goal.returns-in_default
 returns-in_default c = no_mode _ _ _ c.rate_of.ensures _ c.in_default.is

@@ -4,6 +4,7 @@ use mathlib.Core.Path.{◌≡◌, sym, ◌∙◌}
 use mathlib.Core.Bool.{Bool, true, false}
 use mathlib.Core.List.{List}
 use Prim.Native.Nat.{ℕ}
+use Rattle.refusals.specs.declared.types.Refusal.TheVariants.{StateNotReached, UnknownMode}
 use Rattle.modes.specs.Modes.{unknown}
 use Rattle.register.specs.declared.types.Reader.{Reader}
 use Rattle.hearing.specs.declared.types.Heard.TheVariants.{Refused}
@@ -13,12 +14,12 @@ use Rattle.reader.specs.Blocks.{stopped, going, blocked_of}
 use Rattle.reader.proofs.stepping.block.Goals as goal
 
 module _ (reader : Reader) (limit : ℕ) (run : List ℕ) (past : Bool) (asked : past ≡ unknown reader.mode) where
-  no_mode : past ≡ true → stopped (Refused 2) reader 0 ≡ blocked_of reader limit run
+  no_mode : past ≡ true → stopped (Refused UnknownMode) reader 0 ≡ blocked_of reader limit run
   unfolding blocked_of
   no_mode e = rw (← asked, e)
 
   module _ (known : past ≡ false) (state : Bool) (tested : state ≡ unreached reader) where
-    no_state : state ≡ true → stopped (Refused 13) reader 0 ≡ blocked_of reader limit run
+    no_state : state ≡ true → stopped (Refused StateNotReached) reader 0 ≡ blocked_of reader limit run
     unfolding blocked_of
     no_state e = rw (← asked, known, ← tested, e)
 

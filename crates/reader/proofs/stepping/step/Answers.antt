@@ -6,6 +6,7 @@ use Prim.Native.Nat.{ℕ, ◌^◌, ◌≤◌, ◌<◌}
 use native.Mathlib.Omega.{arith}
 use borrow.Author.Tests.{lt-ltb}
 use borrow.Author.Rules.{rules}
+use Rattle.refusals.specs.declared.types.Refusal.TheVariants.{ElementTooHigh, StateNotReached, UnknownMode}
 use Rattle.modes.specs.Modes.{unknown}
 use Rattle.register.specs.declared.types.Reader.{Reader}
 use Rattle.hearing.specs.declared.types.Heard.{Heard}
@@ -17,7 +18,7 @@ use Rattle.reader.proofs.Taken.{step_taken}
 use Rattle.reader.proofs.stepping.step.Goals as goal
 
 module _ (r : Reader) (element : ℕ) (past : Bool) (asked : past ≡ unknown r.mode) where
-  no_mode : past ≡ true → after r (Refused 2) ≡ stepped_of r element
+  no_mode : past ≡ true → after r (Refused UnknownMode) ≡ stepped_of r element
   unfolding stepped_of
   no_mode e = rw (← asked, e)
 
@@ -25,7 +26,7 @@ module _ (r : Reader) (element : ℕ) (past : Bool) (asked : past ≡ unknown r.
     known : unknown r.mode ≡ false
     known = sym asked ∙ within
 
-    no_state : state ≡ true → after r (Refused 13) ≡ stepped_of r element
+    no_state : state ≡ true → after r (Refused StateNotReached) ≡ stepped_of r element
     unfolding stepped_of
     no_state e = rw (known, ← tested, e)
 
@@ -33,7 +34,7 @@ module _ (r : Reader) (element : ℕ) (past : Bool) (asked : past ≡ unknown r.
       passed : unreached r ≡ false
       passed = sym tested ∙ passes
 
-      no_bit : 1 < element → after r (Refused 3) ≡ stepped_of r element
+      no_bit : 1 < element → after r (Refused ElementTooHigh) ≡ stepped_of r element
       unfolding stepped_of
       no_bit high = rw (known, passed, lt-ltb 1 element high)
 

@@ -3,7 +3,7 @@
 use Prim.Native.Nat.{◌<◌}
 use mathlib.Core.Path.{◌≡◌, refl, sym}
 use native.Mathlib.Omega.{arith}
-use Rattle.refusals.specs.declared.types.Verdict.TheVariants.{Sound, Refused as Unsound}
+use Rattle.std.specs.Prelude.{Err, Ok}
 use Rattle.refusals.specs.Answer.{verdict_of}
 use Rattle.refusals.proofs.Verdicts.{sound_clear}
 use Rattle.rates.specs.declared.types.Rate.{Rate}
@@ -15,8 +15,8 @@ use Rattle.record.proofs.writing.packed.Goals as goal
 use Rattle.record.proofs.writing.packed.Goals.{After-quarter-fourth}
 
 -- a record that stands fits its bits
-fits : (rate : Rate) (r : Record) → verdict_of (write_refusals rate r) ≡ Sound → Writable r.address r.groups
-fits rate r stands = writable rate r (sound_clear Unsound Sound (write_refusals rate r) Sound (sym stands) refl)
+fits : (rate : Rate) (r : Record) → verdict_of (write_refusals rate r) ≡ Ok tt → Writable r.address r.groups
+fits rate r stands = writable rate r (sound_clear (write_refusals rate r) (Ok tt) (sym stands) refl)
 
 -- each quarter, where all four are known
 below :

@@ -4,39 +4,39 @@ use mathlib.Core.Path.{◌≡◌, sym, ap, ◌∙◌}
 use mathlib.Core.Bool.{Bool}
 use Prim.Native.Nat.{ℕ}
 use lib.Dec.{ltb}
+use Rattle.refusals.specs.declared.types.Refusal.{Refusal}
+use Rattle.std.specs.Prelude.{Err, Ok, Result}
 use Rattle.rates.specs.declared.types.Rate.{Rate}
-use Rattle.refusals.specs.declared.types.Verdict.{Verdict}
-use Rattle.refusals.specs.declared.types.Verdict.TheVariants.{Sound, Refused as Unsound}
 use Rattle.refusals.specs.Answer.{verdict_of}
+use Rattle.refusals.proofs.Results.{passed_on}
 use Rattle.refusals.proofs.Verdicts.{refused_by, passed_by}
 use Rattle.record.specs.declared.types.Record.{Record}
-use Rattle.record.specs.declared.types.Packed.TheVariants.{Bits, Refused as Unpackable}
 use Rattle.record.specs.Record.{info_of, group_above_15}
 use Rattle.record.specs.Calls.{record_refusals, write_refusals, packed_of}
 use Rattle.record.proofs.writing.to_bits.Goals as goal
 
 module _
-    (rate : Rate) (r : Record) (bad : Bool) (found : Verdict) (tested : bad ≡ group_above_15 r.groups)
+    (rate : Rate) (r : Record) (bad : Bool) (found : Result Unit Refusal) (tested : bad ≡ group_above_15 r.groups)
     (judged : found ≡ verdict_of (record_refusals rate bad (ltb 0 r.place) r)) where
   judged_so : found ≡ verdict_of (write_refusals rate r)
   judged_so = judged ∙ rw tested
 
-  stands : found ≡ Sound → verdict_of (write_refusals rate r) ≡ Sound
+  stands : found ≡ Ok tt → verdict_of (write_refusals rate r) ≡ Ok tt
   stands sound = sym judged_so ∙ sound
 
-  refused : (n : ℕ) → found ≡ Unsound n → Unpackable n ≡ packed_of rate r
+  refused : (n : Refusal) → found ≡ Err n → Err n ≡ packed_of rate r
   unfolding packed_of
-  refused n e = refused_by Unpackable _ (write_refusals rate r) found judged_so n e
+  refused n e = refused_by Err _ (write_refusals rate r) found judged_so n e
 
-  made : (n : ℕ) → n ≡ info_of rate r → found ≡ Sound → Bits n ≡ packed_of rate r
+  made : (n : ℕ) → n ≡ info_of rate r → found ≡ Ok tt → Ok n ≡ packed_of rate r
   unfolding packed_of
-  made n e sound = ap Bits e ∙ passed_by Unpackable _ (write_refusals rate r) found judged_so sound
+  made n e sound = ap Ok e ∙ passed_by Err _ (write_refusals rate r) found judged_so sound
 
 pub packed-requires : goal.packed-requires
-packed-requires c = search stands
+packed-requires c = search (stands, c.in_ok-judge.was)
 
-pub returns-in-Refused : goal.returns-in-Refused
-returns-in-Refused c = search refused
+pub returns-in_err-judge : goal.returns-in_err-judge
+returns-in_err-judge c = passed_on c.from_residual.ensures.1 (search (refused, c.in_err-judge.was))
 
-pub returns-in-Sound : goal.returns-in-Sound
-returns-in-Sound c = search made
+pub returns : goal.returns
+returns c = search (made, c.in_ok-judge.was)

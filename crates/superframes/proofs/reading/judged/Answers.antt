@@ -3,9 +3,9 @@
 use Prim.Native.Nat.{ℕ, ◌+◌}
 use mathlib.Core.Path.{◌≡◌, ap, ◌∙◌}
 use mathlib.Core.Bool.{Bool}
-use Rattle.refusals.specs.declared.types.Verdict.{Verdict}
-use Rattle.refusals.specs.declared.types.Verdict.TheVariants.{Sound, Refused as Unsound}
-use Rattle.refusals.specs.Answer.{Refusal, verdict_of}
+use Rattle.refusals.specs.declared.types.Refusal.{Refusal}
+use Rattle.std.specs.Prelude.{Err, Ok, Result}
+use Rattle.refusals.specs.Answer.{Cause, verdict_of}
 use Rattle.refusals.proofs.Verdicts.{refused_by, passed_by}
 use mathlib.Core.List.{List}
 use Rattle.rates.specs.declared.types.Rate.{Rate}
@@ -13,16 +13,15 @@ use Rattle.rates.specs.declared.types.Flag.{Flag}
 use Rattle.rates.specs.Refused.{refusals_besides}
 use Rattle.pictures.specs.Pictures.{place_outside}
 use Rattle.record.specs.declared.types.Record.{Record}
-use Rattle.record.specs.declared.types.Unpacked.TheVariants.{Holds, Refused as Unheld}
 use Rattle.superframes.specs.SubFrames.{place_said, other_set, placed_at}
 use Rattle.superframes.specs.Bare.{judged_of}
 use Rattle.superframes.proofs.reading.judged.Goals as goal
 
 module _
     (rate : Rate) (last : ℕ) (drop second : Flag) (r : Record) (place : ℕ) (said : place ≡ place_said (last + 1) r.flags.mark second r.flags.bgf0)
-    (out : Bool) (looked : out ≡ place_outside (last + 1) place) (other : Bool) (set : other ≡ other_set (last + 1) r.flags) (found : Verdict)
+    (out : Bool) (looked : out ≡ place_outside (last + 1) place) (other : Bool) (set : other ≡ other_set (last + 1) r.flags) (found : Result Unit Refusal)
     (judged : found ≡ verdict_of (refusals_besides out other rate drop r.address)) where
-  abbrev rows : List Refusal
+  abbrev rows : List Cause
   rows =
       refusals_besides (place_outside (last + 1) (place_said (last + 1) r.flags.mark second r.flags.bgf0)) (other_set (last + 1) r.flags) rate drop
       r.address
@@ -30,11 +29,11 @@ module _
   judged_so : found ≡ verdict_of rows
   judged_so = judged ∙ rw (looked, said, set)
 
-  refused : (n : ℕ) → found ≡ Unsound n → Unheld n ≡ judged_of rate (last + 1) drop second r
-  refused n e = refused_by Unheld _ rows found judged_so n e
+  refused : (n : Refusal) → found ≡ Err n → Err n ≡ judged_of rate (last + 1) drop second r
+  refused n e = refused_by Err _ rows found judged_so n e
 
-  held : found ≡ Sound → (s : Record) → s ≡ placed_at place drop r → Holds s ≡ judged_of rate (last + 1) drop second r
-  held sound s made = ap Holds made ∙ (rw said (passed_by Unheld _ rows found judged_so sound))
+  held : found ≡ Ok tt → (s : Record) → s ≡ placed_at place drop r → Ok s ≡ judged_of rate (last + 1) drop second r
+  held sound s made = ap Ok made ∙ (rw said (passed_by Err _ rows found judged_so sound))
 
 pub returns-in-Refused : goal.returns-in-Refused
 returns-in-Refused c = search refused

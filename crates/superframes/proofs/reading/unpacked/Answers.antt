@@ -4,6 +4,9 @@ use Prim.Native.Nat.{ℕ, ◌+◌, ◌/◌, ◌%◌}
 use mathlib.Core.Path.{◌≡◌, refl, sym, ◌∙◌}
 use mathlib.Core.Bool.{Bool, true, false, ◌||◌, cond}
 use native.Mathlib.Omega.{arith}
+use Rattle.refusals.specs.declared.types.Refusal.{Refusal}
+use Rattle.std.specs.Prelude.{Err, Ok, Result}
+use Rattle.refusals.specs.declared.types.Refusal.TheVariants.{OutsideTheClock}
 use Rattle.refusals.proofs.Answered.{neither}
 use Rattle.rates.specs.declared.types.Rate.{Rate}
 use Rattle.rates.specs.declared.types.Flag.{Flag}
@@ -12,8 +15,6 @@ use Rattle.rates.specs.Face.{outside}
 use Rattle.layout.specs.Flags.{flag_of}
 use Rattle.pictures.specs.Pictures.{place_outside}
 use Rattle.record.specs.declared.types.Record.{Record}
-use Rattle.record.specs.declared.types.Unpacked.{Unpacked}
-use Rattle.record.specs.declared.types.Unpacked.TheVariants.{Holds, Refused as Unheld}
 use Rattle.record.specs.Record.{record_of, digit_above_9}
 use Rattle.record.specs.Calls as at_rate
 use Rattle.superframes.specs.SubFrames.{place_in}
@@ -28,42 +29,42 @@ sooner true b c e = refl
 sooner false true c e = refl
 sooner false false c e = e
 
-module _ (rate : Rate) (last info : ℕ) (held : Unpacked) (asked : held ≡ at_rate.unpacked_of rate (without info)) where
+module _ (rate : Rate) (last info : ℕ) (held : Result Record Refusal) (asked : held ≡ at_rate.unpacked_of rate (without info)) where
   abbrev whole : Record
   whole = record_of rate info
 
   abbrev bad : Bool
   bad = digit_above_9 info || outside (frames_in_second rate) whole.address
 
-  as_found : held ≡ cond bad (Unheld 8) (Holds (bare whole))
+  as_found : held ≡ cond bad (Err OutsideTheClock) (Ok (bare whole))
   unfolding at_rate.unpacked_of
-  as_found = asked ∙ rw (held_bare info rate, digits_same info) (eight_alone Unheld (Holds (bare whole)) rate (digit_above_9 info) whole)
+  as_found = asked ∙ rw (held_bare info rate, digits_same info) (eight_alone Err (Ok (bare whole)) rate (digit_above_9 info) whole)
 
-  refused : (n : ℕ) → held ≡ Unheld n → Unheld n ≡ unpacked_of rate (last + 1) info
+  refused : (n : Refusal) → held ≡ Err n → Err n ≡ unpacked_of rate (last + 1) info
   unfolding unpacked_of
   refused n e = go bad refl
     where
-      go : (t : Bool) → bad ≡ t → Unheld n ≡ unpacked_of rate (last + 1) info
+      go : (t : Bool) → bad ≡ t → Err n ≡ unpacked_of rate (last + 1) info
       go true t =
-          let eight : Unheld n ≡ Unheld 8 = sym e ∙ as_found ∙ rw t in
+          let eight : Err n ≡ Err OutsideTheClock = sym e ∙ as_found ∙ rw t in
           let first = sooner (digit_above_9 info) (place_outside (last + 1) (place_in (last + 1) whole.flags)) (outside (frames_in_second rate) whole.address) t in
           eight ∙ rw first
       go false t =
-          let other : Unheld n ≡ Holds (bare whole) = sym e ∙ as_found ∙ rw t in
+          let other : Err n ≡ Ok (bare whole) = sym e ∙ as_found ∙ rw t in
           let z : ◌≡◌ {A = ℕ} 0 1 = cc in absurd (omega arith)
 
   went_on :
-      (r : Record) → held ≡ Holds r → (drop second : Flag) → drop ≡ flag_of (info / 1024 % 2) → second ≡ flag_of (info / 2048 % 2) → (given : Unpacked)
+      (r : Record) → held ≡ Ok r → (drop second : Flag) → drop ≡ flag_of (info / 1024 % 2) → second ≡ flag_of (info / 2048 % 2) → (given : Result Record Refusal)
       → given ≡ judged_of rate (last + 1) drop second r → given ≡ unpacked_of rate (last + 1) info
   unfolding unpacked_of record_of
   went_on r e drop second first next given told = go bad refl
     where
       go : (t : Bool) → bad ≡ t → given ≡ unpacked_of rate (last + 1) info
       go true t =
-          let other : Holds r ≡ Unheld 8 = sym e ∙ as_found ∙ rw t in
+          let other : Ok r ≡ Err OutsideTheClock = sym e ∙ as_found ∙ rw t in
           let z : ◌≡◌ {A = ℕ} 0 1 = cc in absurd (omega arith)
       go false t =
-          let own : Holds r ≡ Holds (bare whole) = sym e ∙ as_found ∙ rw t in
+          let own : Ok r ≡ Ok (bare whole) = sym e ∙ as_found ∙ rw t in
           let same : r ≡ bare whole = cc in
           let clear = neither (digit_above_9 info) _ t in
           told ∙ rw (same, first, next, clear.0)

@@ -4,8 +4,9 @@ use Prim.Native.Nat.{ℕ, ◌+◌, ◌*◌, ◌/◌, ◌%◌, ◌^◌, ◌<◌}
 use mathlib.Core.Path.{◌≡◌, refl, sym, ap, ◌∙◌}
 use mathlib.Core.Bool.{Bool, true, false, ◌||◌, cond}
 use native.Mathlib.Omega.{arith}
-use Rattle.refusals.specs.declared.types.Verdict.{Verdict}
-use Rattle.refusals.specs.declared.types.Verdict.TheVariants.{Sound, Refused as Unsound}
+use Rattle.std.specs.Prelude.{Err, Ok, Result}
+use Rattle.refusals.specs.declared.types.Refusal.{Refusal}
+use Rattle.refusals.specs.declared.types.Refusal.TheVariants.{OutsideTheClock}
 use Rattle.refusals.specs.Answer.{verdict_of}
 use Rattle.refusals.proofs.Answered.{neither}
 use Rattle.refusals.proofs.Verdicts.{refused_by, passed_by}
@@ -17,8 +18,6 @@ use Rattle.rates.specs.Refused.{refusals_besides}
 use Rattle.layout.specs.Flags.{flag_of, bit_of}
 use Rattle.pictures.specs.Pictures.{place_outside}
 use Rattle.record.specs.declared.types.Record.{Record}
-use Rattle.record.specs.declared.types.Packed.{Packed}
-use Rattle.record.specs.declared.types.Packed.TheVariants.{Bits, Refused as Unpackable}
 use Rattle.record.specs.Record.{info_of, group_above_15}
 use Rattle.record.specs.Calls as at_rate
 use Rattle.record.proofs.Accepted.{writable}
@@ -37,44 +36,44 @@ alone : (a b : Bool) → b ≡ false → (a || b) ≡ a
 alone true b e = refl
 alone false b e = e
 
-bits_in : Packed → ℕ
-bits_in (Bits n) = n
-bits_in (Unpackable n) = n
+bits_in : Result ℕ Refusal → ℕ
+bits_in (Ok n) = n
+bits_in (Err n) = n
 
 module _ (rate : Rate) (last : ℕ) (r : Record) (three : ℕ) (spread_so : three ≡ three_for (last + 1) r.place) (told_of : Record)
-    (without : told_of ≡ bare (flagged three r)) (made : Packed) (asked : made ≡ at_rate.packed_of rate told_of) where
+    (without : told_of ≡ bare (flagged three r)) (made : Result ℕ Refusal) (asked : made ≡ at_rate.packed_of rate told_of) where
   abbrev whole : Record
   whole = spread (last + 1) r
 
   abbrev bad : Bool
   bad = group_above_15 r.groups || outside (frames_in_second rate) r.address
 
-  as_made : made ≡ cond bad (Unpackable 8) (Bits (info_of rate (bare whole)))
+  as_made : made ≡ cond bad (Err OutsideTheClock) (Ok (info_of rate (bare whole)))
   unfolding at_rate.packed_of
-  as_made = asked ∙ rw (without, spread_so) (eight_alone Unpackable (Bits (info_of rate (bare whole))) rate (group_above_15 r.groups) whole)
+  as_made = asked ∙ rw (without, spread_so) (eight_alone Err (Ok (info_of rate (bare whole))) rate (group_above_15 r.groups) whole)
 
-  refused : (n : ℕ) → made ≡ Unpackable n → Unpackable 8 ≡ packed_of rate (last + 1) r
+  refused : (n : Refusal) → made ≡ Err n → Err OutsideTheClock ≡ packed_of rate (last + 1) r
   unfolding packed_of
   refused n e = go bad refl
     where
-      go : (t : Bool) → bad ≡ t → Unpackable 8 ≡ packed_of rate (last + 1) r
+      go : (t : Bool) → bad ≡ t → Err OutsideTheClock ≡ packed_of rate (last + 1) r
       go true t =
           let first = sooner (place_outside (last + 1) r.place) (group_above_15 r.groups) (outside (frames_in_second rate) r.address) t in rw first
       go false t =
-          let other : Unpackable n ≡ Bits (info_of rate (bare whole)) = sym e ∙ as_made ∙ rw t in
+          let other : Err n ≡ Ok (info_of rate (bare whole)) = sym e ∙ as_made ∙ rw t in
           let z : ◌≡◌ {A = ℕ} 0 1 = cc in absurd (omega arith)
 
-  module _ (info : ℕ) (e : made ≡ Bits info) where
+  module _ (info : ℕ) (e : made ≡ Ok info) where
     stands : ((group_above_15 r.groups ≡ false) × (outside (frames_in_second rate) r.address ≡ false)) × (info_of rate (bare whole) ≡ info)
     unfolding bits_in
     stands = go bad refl
       where
         go : (t : Bool) → bad ≡ t → ((group_above_15 r.groups ≡ false) × (outside (frames_in_second rate) r.address ≡ false)) × (info_of rate (bare whole) ≡ info)
         go true t =
-            let other : Bits info ≡ Unpackable 8 = sym e ∙ as_made ∙ rw t in
+            let other : Ok info ≡ Err OutsideTheClock = sym e ∙ as_made ∙ rw t in
             let z : ◌≡◌ {A = ℕ} 0 1 = cc in absurd (omega arith)
         go false t =
-            let own : Bits info ≡ Bits (info_of rate (bare whole)) = sym e ∙ as_made ∙ rw t in
+            let own : Ok info ≡ Ok (info_of rate (bare whole)) = sym e ∙ as_made ∙ rw t in
             (neither (group_above_15 r.groups) _ t, sym (ap bits_in own))
 
     module _ (drop_bit second_bit : ℕ) (second : Flag) (dropped : drop_bit ≡ bit_of r.flags.drop) (next : second ≡ flag_of (three / 2 % 2))
@@ -85,21 +84,21 @@ module _ (rate : Rate) (last : ℕ) (r : Record) (three : ℕ) (spread_so : thre
       fits : info + 1024 * (drop_bit + 2 * second_bit) < 2 ^ 64
       fits = rw whole_bits (info_below rate whole (writable rate (bare r) (bare_clear rate r stands.0.0 stands.0.1)))
 
-    module _ (out : Bool) (looked : out ≡ place_outside (last + 1) r.place) (set : Bool) (flagged_so : set ≡ flag_besides_drop r.flags) (found : Verdict)
+    module _ (out : Bool) (looked : out ≡ place_outside (last + 1) r.place) (set : Bool) (flagged_so : set ≡ flag_besides_drop r.flags) (found : Result Unit Refusal)
         (judged : found ≡ verdict_of (refusals_besides out set rate r.flags.drop r.address)) where
       judged_so : found ≡ verdict_of (write_refusals rate (last + 1) r)
       judged_so = judged ∙ rw (alone (place_outside (last + 1) r.place) (group_above_15 r.groups) stands.0.0, looked, flagged_so)
 
-      turned_away : (n : ℕ) → found ≡ Unsound n → Unpackable n ≡ packed_of rate (last + 1) r
+      turned_away : (n : Refusal) → found ≡ Err n → Err n ≡ packed_of rate (last + 1) r
       unfolding packed_of
-      turned_away n e = refused_by Unpackable _ (write_refusals rate (last + 1) r) found judged_so n e
+      turned_away n e = refused_by Err _ (write_refusals rate (last + 1) r) found judged_so n e
 
       taken :
-          found ≡ Sound → (drop_bit second_bit : ℕ) (second : Flag) → drop_bit ≡ bit_of r.flags.drop → second ≡ flag_of (three / 2 % 2)
-          → second_bit ≡ bit_of second → Bits (info + 1024 * (drop_bit + 2 * second_bit)) ≡ packed_of rate (last + 1) r
+          found ≡ Ok tt → (drop_bit second_bit : ℕ) (second : Flag) → drop_bit ≡ bit_of r.flags.drop → second ≡ flag_of (three / 2 % 2)
+          → second_bit ≡ bit_of second → Ok (info + 1024 * (drop_bit + 2 * second_bit)) ≡ packed_of rate (last + 1) r
       unfolding packed_of
       taken sound drop_bit second_bit second dropped next seconded =
-          ap Bits (whole_bits drop_bit second_bit second dropped next seconded) ∙ passed_by Unpackable _ (write_refusals rate (last + 1) r) found judged_so sound
+          ap Ok (whole_bits drop_bit second_bit second dropped next seconded) ∙ passed_by Err _ (write_refusals rate (last + 1) r) found judged_so sound
 
 pub returns-in_default : goal.returns-in_default
 returns-in_default c = search refused

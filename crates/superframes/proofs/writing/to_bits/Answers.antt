@@ -2,23 +2,23 @@
 -- Assumes nothing.
 use Prim.Native.Nat.{ℕ, ◌+◌}
 use mathlib.Core.Path.{◌≡◌, ◌∙◌}
+use Rattle.modes.specs.declared.types.HighRate.{HighRate}
+use Rattle.refusals.specs.declared.types.Refusal.{Refusal}
+use Rattle.std.specs.Prelude.{Err, Result}
+use Rattle.refusals.specs.declared.types.Refusal.TheVariants.{UnknownMode}
 use Rattle.rates.specs.declared.types.Rate.{Rate}
 use Rattle.record.specs.declared.types.Record.{Record}
-use Rattle.record.specs.declared.types.Packed.{Packed}
-use Rattle.record.specs.declared.types.Packed.TheVariants.{Refused as Unpackable}
-use Rattle.modes.specs.declared.types.Rowed.{Rowed}
-use Rattle.modes.specs.declared.types.Rowed.TheVariants.{Known, Refused}
 use Rattle.modes.specs.Modes.{high_row_of}
 use Rattle.modes.proofs.ByRate.{row_told, row_refused}
 use Rattle.superframes.specs.Calls.{packed_of, packed_in}
 use Rattle.superframes.proofs.writing.to_bits.Goals as goal
 
-module _ (mode : ℕ) (r : Record) (row : Rowed) (asked : row ≡ high_row_of mode) where
-  no_mode : (n : ℕ) → row ≡ Refused n → Unpackable 2 ≡ packed_in mode r
+module _ (mode : ℕ) (r : Record) (row : Result HighRate Refusal) (asked : row ≡ high_row_of mode) where
+  no_mode : (n : Refusal) → row ≡ Err n → Err UnknownMode ≡ packed_in mode r
   unfolding packed_in
   no_mode n e = rw (row_refused mode row asked n e)
 
-  by_its_row : (rate : Rate) (last : ℕ) → row ≡ Known rate last → (given : Packed) → given ≡ packed_of rate (last + 1) r → given ≡ packed_in mode r
+  by_its_row : (rate : Rate) (last : ℕ) → row ≡ Ok (high_row rate last) → (given : Result ℕ Refusal) → given ≡ packed_of rate (last + 1) r → given ≡ packed_in mode r
   unfolding packed_in packed_of
   by_its_row rate last e given told = let is = row_told mode row asked rate last e in told ∙ rw (is.0, is.1.0, ← is.1.1)
 
