@@ -46,7 +46,7 @@ module _ (mode : ℕ) (interface : Interface) (r : Record) (type second start : 
 
   module _ (known : uncounted mode ≡ false) where
     -- the record's own answer begins with the mode, which is known
-    past_mode : {A : Type 0} (refused : ℕ → A) (accepted : A)
+    past_mode : {A : Type 0} (refused : Refusal → A) (accepted : A)
         → answer refused record_rows accepted ≡ answer refused (rows_from OutsideTheClock record_rows) accepted
     past_mode refused accepted = rw known
 

@@ -98,7 +98,7 @@ after_length words size exactly bound = (
 
 -- a list that begins with 2 gives it exactly where nothing is counted
 two_first :
-    {A : Type 0} (refused : ℕ → A) (accepted : A) (number_of : A → ℕ) → ((k : ℕ) → number_of (refused k) ≡ k) → number_of accepted ≡ 0 → (mode : ℕ) (rows : List Cause)
+    {A : Type 0} (refused : Refusal → A) (accepted : A) (number_of : A → ℕ) → ((k : ℕ) → number_of (refused k) ≡ k) → number_of accepted ≡ 0 → (mode : ℕ) (rows : List Cause)
     → in_order the_order (with_counting mode rows) ≡ true → (answer refused (with_counting mode rows) accepted ≡ refused UnknownMode) ↔ (11 ≤ mode)
 two_first refused accepted number_of tells nothing mode rows follows =
     first_of (given_exactly refused accepted number_of tells nothing UnknownMode (omega arith) (with_counting mode rows) follows) (uncounted_from mode)

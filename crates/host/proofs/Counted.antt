@@ -4,6 +4,7 @@ use Prim.Native.Nat.{ℕ}
 use mathlib.Core.Path.{◌≡◌, refl, ap, ◌∙◌}
 use mathlib.Core.Bool.{Bool, true, false}
 use mathlib.Core.List.{[]}
+use Rattle.refusals.specs.declared.types.Refusal.{Refusal}
 use Rattle.refusals.specs.Answer.{answer}
 use Rattle.modes.specs.Modes.{uncounted, with_counting}
 use Rattle.plain.specs.Given.{no_flag}
@@ -11,7 +12,7 @@ use Rattle.host.specs.Unnamed.{after_mode}
 use Rattle.host.specs.Counting.{counted}
 use Rattle.host.proofs.Firsts.{unnamed, named}
 
-module _ {A B : Type 0} (shown : A → B) (refused : ℕ → A) (mode drop : ℕ) (none : Bool) (tested : none ≡ no_flag drop) where
+module _ {A B : Type 0} (shown : A → B) (refused : Refusal → A) (mode drop : ℕ) (none : Bool) (tested : none ≡ no_flag drop) where
   pub no_flag_lem :
       none ≡ true → (past : Bool) (k : ℕ) (answered : A) (b : B) → past ≡ uncounted mode → k ≡ after_mode past → b ≡ shown (refused k)
       → b ≡ counted shown refused mode drop answered

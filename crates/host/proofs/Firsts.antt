@@ -7,12 +7,13 @@ use mathlib.Core.List.{List, [], ◌∷◌, ◌++◌}
 use lib.Dec.{eqb}
 use lib.ListN.{take}
 use borrow.Author.Tests.{eqb-true}
+use Rattle.refusals.specs.declared.types.Refusal.{Refusal}
 use Rattle.refusals.specs.declared.types.Refusal.TheVariants.{ElementTooHigh}
 use Rattle.refusals.specs.Answer.{Cause, ◌when◌, answer}
 use Rattle.refusals.proofs.Answered.{carried}
 use Rattle.host.specs.Unnamed.{then_unnamed}
 
-module _ {A : Type 0} (refused : ℕ → A) where
+module _ {A : Type 0} (refused : Refusal → A) where
   -- a list in two parts: the first part answers, or else the second
   pub in_two :
       (front back : List Cause) (accepted : A)
@@ -65,7 +66,7 @@ with_three (suc n) none [] = (ElementTooHigh when none) ∷ []
 with_three (suc n) none (row ∷ rows) = row ∷ with_three n none rows
 
 -- the rows before 3, 3, and else the call: that is one list
-module _ {A : Type 0} (refused : ℕ → A) (none : Bool) (accepted : A) where
+module _ {A : Type 0} (refused : Refusal → A) (none : Bool) (accepted : A) where
   pub one_list :
       (n : ℕ) (rows : List Cause)
       → answer refused (then_unnamed (take n rows) none) (answer refused rows accepted) ≡ answer refused (with_three n none rows) accepted

@@ -6,6 +6,7 @@ use mathlib.Core.Bool.{false}
 use mathlib.Core.List.{List, [], ◌∷◌}
 use lib.Dec.{ltb}
 use lib.IntN.{ℤ}
+use Rattle.refusals.specs.declared.types.Refusal.{Refusal}
 use Rattle.std.specs.Prelude.{Err}
 use Rattle.refusals.specs.declared.types.Refusal.TheVariants.{ElementTooHigh}
 use Rattle.refusals.specs.Answer.{◌when◌, answer}
@@ -43,7 +44,7 @@ use Rattle.host.proofs.Fed as fed
 -- the calls that count
 module _ (mode : ℕ) (drop : Flag) where
   counted_itself :
-      {A B : Type 0} (shown : A → B) (refused : ℕ → A) (own accepted : A) → own ≡ answer refused (with_counting mode []) accepted
+      {A B : Type 0} (shown : A → B) (refused : Refusal → A) (own accepted : A) → own ≡ answer refused (with_counting mode []) accepted
       → counted shown refused mode (flag_shown drop) own ≡ shown own
   counted_itself shown refused own accepted is =
       sym (a_flag shown refused mode (flag_shown drop) false (sym (flag_named drop)) refl accepted own (shown own) is refl)

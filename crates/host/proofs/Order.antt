@@ -49,7 +49,7 @@ use Rattle.host.proofs.Fed.{its_own}
 
 -- the calls that count: whatever list the mode's call has after 2
 counted_one_list :
-    {A B : Type 0} (shown : A → B) (refused : ℕ → A) (mode drop : ℕ) (answered accepted : A) (rows : List Cause)
+    {A B : Type 0} (shown : A → B) (refused : Refusal → A) (mode drop : ℕ) (answered accepted : A) (rows : List Cause)
     → answered ≡ answer refused (with_counting mode rows) accepted
     → counted shown refused mode drop answered ≡ shown (answer refused (with_three 1 (no_flag drop) (with_counting mode rows)) accepted)
 counted_one_list shown refused mode drop answered accepted rows is =

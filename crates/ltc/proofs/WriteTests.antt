@@ -47,13 +47,13 @@ module _ (mode start : ℕ) (r : Record) (make : Found) (run : List ℕ) (rated 
     own = rate_told mode rated named rate is
 
     -- a second picture is refused by the row that a mark is refused by
-    refused_alike : {A : Type 0} (refused : ℕ → A) (accepted : A) (rest : List Cause)
+    refused_alike : {A : Type 0} (refused : Refusal → A) (accepted : A) (rest : List Cause)
         → answer refused (carried_rows mode r First) (answer refused ((MarkSet when mark_or_second mode r) ∷ rest) accepted)
         ≡ answer refused (with_mode mode (write_refusals_in mode r ++ ((MarkSet when mark_or_second mode r) ∷ rest))) accepted
     refused_alike {A} refused accepted rest =
         ap (answer refused (with_mode mode (write_refusals_in mode r))) (go (is_yes r.flags.mark) (unshown mode First r) (answer refused rest accepted))
       where
-        go : (marked other : Bool) (last : A) → cond other (refused 11) (cond (marked || other) (refused 11) last) ≡ cond (marked || other) (refused 11) last
+        go : (marked other : Bool) (last : A) → cond other (refused MarkSet) (cond (marked || other) (refused MarkSet) last) ≡ cond (marked || other) (refused MarkSet) last
         go true true last = refl
         go false true last = refl
         go marked false last = refl

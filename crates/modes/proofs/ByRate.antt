@@ -9,8 +9,10 @@ use lib.Dec.{ltb}
 use Rattle.refusals.specs.declared.types.Refusal.TheVariants.{OutsideTheClock, UnknownMode, UnusedBitSet}
 use Rattle.refusals.specs.declared.types.Refusal.{Refusal}
 use Rattle.std.specs.Prelude.{Err, Ok, Result}
-use Rattle.modes.specs.declared.types.HighRate.{HighRate}
-use Rattle.refusals.proofs.Answered.{Clear, neither, accepted_as}
+use Rattle.pictures.specs.declared.types.Counting.{Counting}
+use Rattle.refusals.proofs.Answered.{Clear, neither}
+use Rattle.refusals.proofs.Results.{not_accepted, accepted_so}
+use Rattle.pictures.specs.Pictures.{counting}
 use Rattle.refusals.proofs.ByNumber.{clear_at}
 use Rattle.rates.specs.declared.types.Rate.{Rate}
 use Rattle.pictures.specs.Pictures.{several, place_outside, place_unused}
@@ -65,50 +67,36 @@ module _ (mode : ℕ) (r : Record) where
     fits_of = writable (rate_at mode) (at_rate (pictures_at mode) r) clear_at_rate
 
 -- a rate, or a row, that was told is the mode's own, and the mode is one of those that are asked for; a mode that was refused is not
-rate_in : Rate → Result Rate Refusal → Rate
-rate_in other (Ok rate) = rate
-rate_in other (Err n) = other
-
 module _ (mode : ℕ) (told : Result Rate Refusal) (asked : told ≡ rated_of mode) where
   pub rate_told : (rate : Rate) → told ≡ Ok rate → (unknown mode ≡ false) × (rate_at mode ≡ rate)
-  unfolding rated_of rate_in
-  rate_told rate e =
-      let taken = accepted_as Err (Ok (rate_at mode)) (with_mode mode []) (Ok rate) apart (sym asked ∙ e) in
-      (taken.0.0, ap (rate_in rate) taken.1)
-    where
-      apart : (n : Refusal) → Err n ≡ Ok rate → ⊥
-      apart n same = let z : ◌≡◌ {A = ℕ} 0 1 = cc in omega arith
+  unfolding rated_of
+  rate_told rate e = let taken = accepted_so (with_mode mode []) (sym asked ∙ e) in (taken.0.0, taken.1)
 
   pub rate_refused : (n : Refusal) → told ≡ Err n → (unknown mode ≡ true) × (n ≡ UnknownMode)
   unfolding rated_of
   rate_refused n e = go (unknown mode) refl
     where
       go : (t : Bool) → unknown mode ≡ t → (unknown mode ≡ true) × (n ≡ UnknownMode)
-      go true t = let two : Err n ≡ Err UnknownMode = sym e ∙ asked ∙ rw t in (t, cc)
-      go false t =
-          let other : Err n ≡ Ok (rate_at mode) = sym e ∙ asked ∙ rw t in
-          let z : ◌≡◌ {A = ℕ} 0 1 = cc in absurd (omega arith)
+      go true t = let two : ◌≡◌ {A = Result Rate Refusal} (Err n) (Err UnknownMode) = sym e ∙ asked ∙ rw t in (t, cc)
+      go false t = let other : Err n ≡ Ok (rate_at mode) = sym e ∙ asked ∙ rw t in absurd (not_accepted n other)
 
-module _ (mode : ℕ) (told : Result HighRate Refusal) (asked : told ≡ high_row_of mode) where
-  pub row_told : (rate : Rate) (last : ℕ) → told ≡ Ok (high_row rate last) → (high_rate mode ≡ true) × ((rate_at mode ≡ rate) × (last + 1 ≡ pictures_at mode))
+module _ (mode : ℕ) (told : Result Counting Refusal) (asked : told ≡ high_row_of mode) where
+  pub row_told : (own : Counting) → told ≡ Ok own → (high_rate mode ≡ true) × ((rate_at mode ≡ own.rate) × (own.last + 1 ≡ pictures_at mode))
   unfolding high_row_of
-  row_told rate last e = go (high_rate mode) refl
+  row_told own e = go (high_rate mode) refl
     where
-      go : (t : Bool) → high_rate mode ≡ t → (high_rate mode ≡ true) × ((rate_at mode ≡ rate) × (last + 1 ≡ pictures_at mode))
+      go : (t : Bool) → high_rate mode ≡ t → (high_rate mode ≡ true) × ((rate_at mode ≡ own.rate) × (own.last + 1 ≡ pictures_at mode))
       go true t =
-          let own : Ok (high_row rate last) ≡ Ok (high_row (rate_at mode) (pictures_at mode - 1)) = sym e ∙ asked ∙ rw t in
-          let place : last ≡ pictures_at mode - 1 = cc in
-          (t, (cc, omega (arith, some_picture mode)))
-      go false t =
-          let other : Ok (high_row rate last) ≡ Err UnknownMode = sym e ∙ asked ∙ rw t in
-          let z : ◌≡◌ {A = ℕ} 0 1 = cc in absurd (omega arith)
+          let given : ◌≡◌ {A = Result Counting Refusal} (Ok own) (Ok (counting (rate_at mode) (pictures_at mode - 1))) = sym e ∙ asked ∙ rw t in
+          let same : own ≡ counting (rate_at mode) (pictures_at mode - 1) = cc in
+          let place : own.last ≡ pictures_at mode - 1 = ap (λ (c : Counting). c.last) same in
+          (t, (sym (ap (λ (c : Counting). c.rate) same), omega (arith, some_picture mode, place)))
+      go false t = let other : Err UnknownMode ≡ Ok own = sym (sym e ∙ asked ∙ rw t) in absurd (not_accepted UnknownMode other)
 
-  pub row_refused : (n : Refusal) → told ≡ Err n → high_rate mode ≡ false
+  pub row_refused : (n : Refusal) → told ≡ Err n → (high_rate mode ≡ false) × (n ≡ UnknownMode)
   unfolding high_row_of
   row_refused n e = go (high_rate mode) refl
     where
-      go : (t : Bool) → high_rate mode ≡ t → high_rate mode ≡ false
-      go true t =
-          let other : Err n ≡ Ok (high_row (rate_at mode) (pictures_at mode - 1)) = sym e ∙ asked ∙ rw t in
-          let z : ◌≡◌ {A = ℕ} 0 1 = cc in absurd (omega arith)
-      go false t = t
+      go : (t : Bool) → high_rate mode ≡ t → (high_rate mode ≡ false) × (n ≡ UnknownMode)
+      go true t = let other : Err n ≡ Ok (counting (rate_at mode) (pictures_at mode - 1)) = sym e ∙ asked ∙ rw t in absurd (not_accepted n other)
+      go false t = let two : ◌≡◌ {A = Result Counting Refusal} (Err n) (Err UnknownMode) = sym e ∙ asked ∙ rw t in (t, cc)

@@ -1,31 +1,54 @@
--- A call that counts by mode: 2 where nothing is counted in the mode, and else what the call answers by the mode's row.
+-- A call that counts by mode gives 2 in a mode in which nothing is counted, and else answers as its row does.
 -- Assumes nothing.
-use Prim.Native.Nat.{ℕ, ◌+◌}
-use mathlib.Core.Path.{◌≡◌, refl, sym, ◌∙◌}
+use Prim.Native.Nat.{ℕ, ◌+◌, ◌-◌}
+use mathlib.Core.Path.{◌≡◌, refl, sym, ap, ◌∙◌}
 use mathlib.Core.Bool.{Bool, true, false}
+use native.Mathlib.Omega.{arith}
+use Rattle.std.specs.Prelude.{Err, Ok, Result}
+use Rattle.refusals.specs.declared.types.Refusal.{Refusal}
+use Rattle.refusals.specs.declared.types.Refusal.TheVariants.{UnknownMode}
+use Rattle.refusals.proofs.Results.{not_accepted}
 use Rattle.rates.specs.declared.types.Rate.{Rate}
-use Rattle.modes.specs.Modes.{uncounted, rate_at, pictures_at, in_mode}
+use Rattle.pictures.specs.declared.types.Counting.{Counting}
+use Rattle.pictures.specs.Pictures.{counting}
+use Rattle.modes.specs.Modes.{uncounted, rate_at, pictures_at, in_mode, counting_of}
+use Rattle.modes.proofs.EachMode.{some_picture}
 
-module _ {A : Type 0} (refused : ℕ → A) (mode : ℕ) (call : Rate → ℕ → A) where
-  module _ (past : Bool) (asked : past ≡ uncounted mode) where
-    pub turned_away : past ≡ true → refused 2 ≡ in_mode refused mode call
-    turned_away e = rw (← asked, e)
-
-    pub by_its_row :
-        past ≡ false → (rate : Rate) (last : ℕ) (given : A) → rate ≡ rate_at mode → last + 1 ≡ pictures_at mode → given ≡ call rate (last + 1)
-        → given ≡ in_mode refused mode call
-    by_its_row e rate last given known share told = told ∙ rw (known, share, ← asked, e)
-
+module _ {A : Type 0} (mode : ℕ) (call : Rate → ℕ → Result A Refusal) where
   -- in a mode that is known the answer is that of its row
-  pub known_is : uncounted mode ≡ false → in_mode refused mode call ≡ call (rate_at mode) (pictures_at mode)
+  pub known_is : uncounted mode ≡ false → in_mode Err mode call ≡ call (rate_at mode) (pictures_at mode)
   known_is known = rw known
 
   -- and what is no refusal was answered in a mode that is known
   pub answered :
-      (given : A) → ((n : ℕ) → refused n ≡ given → ⊥) → in_mode refused mode call ≡ given
-      → (uncounted mode ≡ false) × (call (rate_at mode) (pictures_at mode) ≡ given)
-  answered given apart e = go (uncounted mode) refl
+      (given : A) → in_mode Err mode call ≡ Ok given → (uncounted mode ≡ false) × (call (rate_at mode) (pictures_at mode) ≡ Ok given)
+  answered given e = go (uncounted mode) refl
     where
-      go : (t : Bool) → uncounted mode ≡ t → (uncounted mode ≡ false) × (call (rate_at mode) (pictures_at mode) ≡ given)
-      go true t = absurd (apart 2 (turned_away (uncounted mode) refl t ∙ e))
+      go : (t : Bool) → uncounted mode ≡ t → (uncounted mode ≡ false) × (call (rate_at mode) (pictures_at mode) ≡ Ok given)
+      go true t = let refused : Err UnknownMode ≡ Ok given = rw t at e in absurd (not_accepted UnknownMode refused)
       go false t = (t, sym (known_is t) ∙ e)
+
+  -- the row that was told is the mode's own, and a mode that has none is refused as the call refuses it
+  module _ (row : Result Counting Refusal) (asked : row ≡ counting_of mode) where
+    pub no_row : (r : Refusal) → row ≡ Err r → Err r ≡ in_mode Err mode call
+    unfolding counting_of
+    no_row r e = go (uncounted mode) refl
+      where
+        go : (t : Bool) → uncounted mode ≡ t → Err r ≡ in_mode Err mode call
+        go true t = let given : ◌≡◌ {A = Result Counting Refusal} (Err r) (Err UnknownMode) = sym e ∙ asked ∙ rw t in let same : r ≡ UnknownMode = cc in rw (t, same)
+        go false t =
+            let given : Err r ≡ Ok (counting (rate_at mode) (pictures_at mode - 1)) = sym e ∙ asked ∙ rw t in absurd (not_accepted r given)
+
+    pub by_its_row : (own : Counting) → row ≡ Ok own → (given : Result A Refusal) → given ≡ call own.rate (own.last + 1) → given ≡ in_mode Err mode call
+    unfolding counting_of
+    by_its_row own e given told = go (uncounted mode) refl
+      where
+        go : (t : Bool) → uncounted mode ≡ t → given ≡ in_mode Err mode call
+        go true t = let other : Err UnknownMode ≡ Ok own = sym (sym e ∙ asked ∙ rw t) in absurd (not_accepted UnknownMode other)
+        go false t =
+            let given_row : ◌≡◌ {A = Result Counting Refusal} (Ok own) (Ok (counting (rate_at mode) (pictures_at mode - 1))) = sym e ∙ asked ∙ rw t in
+            let same : own ≡ counting (rate_at mode) (pictures_at mode - 1) = cc in
+            let rate : own.rate ≡ rate_at mode = ap (λ (c : Counting). c.rate) same in
+            let place : own.last ≡ pictures_at mode - 1 = ap (λ (c : Counting). c.last) same in
+            let share : own.last + 1 ≡ pictures_at mode = omega (arith, some_picture mode, place) in
+            told ∙ rw (rate, share, t)

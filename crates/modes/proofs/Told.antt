@@ -10,7 +10,8 @@ use Rattle.std.specs.Prelude.{Err, Ok, Result}
 use Rattle.refusals.specs.declared.types.Refusal.{Refusal}
 use Rattle.refusals.specs.declared.types.Refusal.TheVariants.{MarkSet}
 use Rattle.refusals.specs.Answer.{Cause, answer}
-use Rattle.refusals.proofs.Answered.{Clear, carried, otherwise_accepted, accepted_as}
+use Rattle.refusals.proofs.Answered.{Clear, carried, otherwise_accepted}
+use Rattle.refusals.proofs.Results.{accepted_so}
 use Rattle.refusals.proofs.ByNumber.{clear_at, clear_before, clear_whole}
 use Rattle.record.specs.declared.types.Record.{Record}
 use Rattle.modes.specs.declared.types.Shows.{Shows}
@@ -19,31 +20,23 @@ use Rattle.modes.specs.Calls.{information_in, write_refusals_in, packed_in}
 use Rattle.modes.specs.Shown.{unshown, carried_refusals_in, carried_in}
 
 -- what a carrier answers on the record's answer
-told : {A : Type 0} → (ℕ → A) → A → Result ℕ Refusal → A
+told : {A : Type 0} → (Refusal → A) → A → Result ℕ Refusal → A
 told refused accepted (Ok n) = accepted
 told refused accepted (Err n) = refused n
-
-bits_in : Result ℕ Refusal → ℕ
-bits_in (Ok n) = n
-bits_in (Err n) = n
 
 -- of bits that a list of refusals comes before
 module _ (rows : List Cause) (info : ℕ) where
   pub refused_by_rows :
-      {A : Type 0} (refused : ℕ → A) (accepted : A) (n : Refusal) → answer Err rows (Ok info) ≡ Err n → refused n ≡ answer refused rows accepted
+      {A : Type 0} (refused : Refusal → A) (accepted : A) (n : Refusal) → answer Err rows (Ok info) ≡ Err n → refused n ≡ answer refused rows accepted
   unfolding told
   refused_by_rows refused accepted n e = ap (told refused accepted) (sym e) ∙ carried (told refused accepted) Err (Ok info) rows
 
   pub made_by_rows : (n : ℕ) → answer Err rows (Ok info) ≡ Ok n → Clear rows × (info ≡ n)
-  unfolding bits_in
-  made_by_rows n e = let taken = accepted_as Err (Ok info) rows (Ok n) apart e in (taken.0, ap bits_in taken.1)
-    where
-      apart : (k : Refusal) → Err k ≡ Ok n → ⊥
-      apart k e = let z : ◌≡◌ {A = ℕ} 0 1 = cc in omega arith
+  made_by_rows n e = accepted_so rows e
 
 module _ (mode : ℕ) (r : Record) where
   pub refused_as :
-      {A : Type 0} (refused : ℕ → A) (accepted : A) (n : Refusal) → packed_in mode r ≡ Err n
+      {A : Type 0} (refused : Refusal → A) (accepted : A) (n : Refusal) → packed_in mode r ≡ Err n
       → refused n ≡ answer refused (with_mode mode (write_refusals_in mode r)) accepted
   unfolding packed_in
   refused_as = refused_by_rows (with_mode mode (write_refusals_in mode r)) (information_in mode r)
@@ -59,7 +52,7 @@ module _ (mode : ℕ) (r : Record) where
     carried_rows = with_mode mode (carried_refusals_in mode shows r)
 
     pub uncarried_as :
-        {A : Type 0} (refused : ℕ → A) (accepted : A) (n : Refusal) → carried_in mode shows r ≡ Err n → refused n ≡ answer refused carried_rows accepted
+        {A : Type 0} (refused : Refusal → A) (accepted : A) (n : Refusal) → carried_in mode shows r ≡ Err n → refused n ≡ answer refused carried_rows accepted
     unfolding carried_in
     uncarried_as = refused_by_rows carried_rows (information_in mode r)
 

@@ -3,11 +3,12 @@
 -- Assumes nothing.
 use Rattle.refusals.specs.declared.types.Refusal.TheVariants.{UnknownMode}
 use Rattle.refusals.specs.declared.types.Refusal.{Refusal}
-use Rattle.modes.specs.declared.types.HighRate.{HighRate}
+use Rattle.pictures.specs.declared.types.Counting.{Counting}
 use Rattle.std.specs.Prelude.{ℕ, zero, suc, ◌-◌, Bool, not, ◌&&◌, List, [], ◌∷◌, ◌++◌, leb, length, Err, Ok, Result}
 use Rattle.refusals.specs.Answer.{Cause, ◌when◌, answer}
 use Rattle.rates.specs.declared.types.Rate.{Rate}
 use Rattle.rates.specs.declared.types.Rate.TheVariants.{At24, At25, At30}
+use Rattle.pictures.specs.Pictures.{counting}
 
 infix 20 ◌by◌
 -- a row: the rate at which addresses count, and how many pictures share an address
@@ -59,13 +60,17 @@ abbrev pub with_counting : ℕ → List Cause → List Cause
 with_counting mode rows = (UnknownMode when uncounted mode) ∷ rows
 
 -- a call that counts by mode: 2, and else what the call answers by the mode's row
-abbrev pub in_mode : {A : Type 0} → (ℕ → A) → ℕ → (Rate → ℕ → A) → A
+abbrev pub in_mode : {A : Type 0} → (Refusal → A) → ℕ → (Rate → ℕ → A) → A
 in_mode refused mode call = answer refused (with_counting mode []) (call (rate_at mode) (pictures_at mode))
+
+-- 2, or how pictures are counted in the mode: its rate, and the place of the last picture that shares an address
+unfoldable pub counting_of : ℕ → Result Counting Refusal
+counting_of mode = answer Err (with_counting mode []) (Ok (counting (rate_at mode) (pictures_at mode - 1)))
 
 -- 2, or the rate of a mode that the lines know
 unfoldable pub rated_of : ℕ → Result Rate Refusal
 rated_of mode = answer Err (with_mode mode []) (Ok (rate_at mode))
 
 -- 2, or the row of a high frame rate: its rate, and the place of the last picture that shares an address
-unfoldable pub high_row_of : ℕ → Result HighRate Refusal
-high_row_of mode = answer Err ((UnknownMode when not (high_rate mode)) ∷ []) (Ok (high_row (rate_at mode) (pictures_at mode - 1)))
+unfoldable pub high_row_of : ℕ → Result Counting Refusal
+high_row_of mode = answer Err ((UnknownMode when not (high_rate mode)) ∷ []) (Ok (counting (rate_at mode) (pictures_at mode - 1)))

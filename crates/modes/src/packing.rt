@@ -4,17 +4,14 @@ ghost use Rattle.record.specs.Record.{at_place};
 ghost use Rattle.modes.specs.Calls.{unpacked_in, packed_in};
 ghost use Rattle.modes.specs.AtRate.{place_left};
 
-use crate::table::{is_unknown, last_place, rate_at};
+use crate::table::{last_place, rate_of};
 use record::Record;
 use refusals::Refusal;
 
 pub fn from_bits(mode: u8, info: u64) -> Result<Record, Refusal>
     ensures { result ≡ unpacked_in mode info }
 {
-    if is_unknown(mode) {
-        return Err(Refusal::UnknownMode);
-    }
-    record::from_bits(rate_at(mode), info)
+    record::from_bits(rate_of(mode)?, info)
 }
 
 // A record with its place said anew.
@@ -45,13 +42,11 @@ fn place_left(last: u8, place: u8) -> u8
 pub fn to_bits(mode: u8, r: Record) -> Result<u64, Refusal>
     ensures { result ≡ packed_in mode r }
 {
-    if is_unknown(mode) {
-        return Err(Refusal::UnknownMode);
-    }
+    let rate = rate_of(mode)?;
     let last = last_place(mode);
     if pictures::is_place_outside(last, r.place) {
         return Err(Refusal::OutsideTheClock);
     }
     let place = place_left(last, r.place);
-    record::to_bits(rate_at(mode), at_place(place, r))
+    record::to_bits(rate, at_place(place, r))
 }

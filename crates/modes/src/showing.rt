@@ -29,15 +29,10 @@ fn place_shown(mode: u8, shows: Shows, mark: Flag) -> u8
 pub fn picture_from_bits(mode: u8, shows: Shows, info: u64) -> Result<Record, Refusal>
     ensures { result ≡ shown_in mode shows info }
 {
-    let held = from_bits(mode, info);
-    match held {
-        Err(number) => Err(number),
-        Ok(r) => {
-            let flags = r.flags;
-            let mark = flags.mark;
-            Ok(at_place(place_shown(mode, shows, mark), r))
-        }
-    }
+    let held = from_bits(mode, info)?;
+    let flags = held.flags;
+    let mark = flags.mark;
+    Ok(at_place(place_shown(mode, shows, mark), held))
 }
 
 fn is_unshown(mode: u8, shows: Shows, r: Record) -> bool
@@ -51,14 +46,9 @@ fn is_unshown(mode: u8, shows: Shows, r: Record) -> bool
 pub fn picture_to_bits(mode: u8, shows: Shows, r: Record) -> Result<u64, Refusal>
     ensures { result ≡ carried_in mode shows r }
 {
-    let packed = to_bits(mode, r);
-    match packed {
-        Err(number) => Err(number),
-        Ok(info) => {
-            if is_unshown(mode, shows, r) {
-                return Err(Refusal::MarkSet);
-            }
-            Ok(info)
-        }
+    let info = to_bits(mode, r)?;
+    if is_unshown(mode, shows, r) {
+        return Err(Refusal::MarkSet);
     }
+    Ok(info)
 }

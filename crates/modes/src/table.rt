@@ -1,8 +1,8 @@
 // The table of modes.
 ghost use Rattle.std.specs.Prelude.{◌≡◌, ◌+◌};
-ghost use Rattle.modes.specs.Modes.{rate_at, pictures_at, unknown, uncounted, high_rate, rated_of, high_row_of};
+ghost use Rattle.modes.specs.Modes.{rate_at, pictures_at, unknown, uncounted, high_rate, counting_of, rated_of, high_row_of};
 
-use crate::types::HighRate;
+use pictures::Counting;
 use rates::Rate;
 use refusals::Refusal;
 
@@ -65,6 +65,19 @@ pub fn last_place(mode: u8) -> u8
     1
 }
 
+// Nothing is counted past both tables: 2.
+pub fn counting_of(mode: u8) -> Result<Counting, Refusal>
+    ensures { result ≡ counting_of mode }
+{
+    if is_uncounted(mode) {
+        return Err(Refusal::UnknownMode);
+    }
+    Ok(Counting {
+        rate: rate_at(mode),
+        last: last_place(mode),
+    })
+}
+
 pub fn rate_of(mode: u8) -> Result<Rate, Refusal>
     ensures { result ≡ rated_of mode }
 {
@@ -74,11 +87,11 @@ pub fn rate_of(mode: u8) -> Result<Rate, Refusal>
     Ok(rate_at(mode))
 }
 
-pub fn high_row_of(mode: u8) -> Result<HighRate, Refusal>
+pub fn high_row_of(mode: u8) -> Result<Counting, Refusal>
     ensures { result ≡ high_row_of mode }
 {
     if !is_high_rate(mode) {
         return Err(Refusal::UnknownMode);
     }
-    Ok(rate_at(mode), last_place(mode))
+    counting_of(mode)
 }

@@ -5,11 +5,16 @@ use Rattle.rates.specs.declared.types.Rate.{Rate}
 use Rattle.rates.specs.declared.types.Address.{Address}
 use Rattle.rates.specs.Rates.{frames_in_day}
 use Rattle.clock.specs.Counting.{count_of, address_at}
+use Rattle.pictures.specs.declared.types.Counting.{Counting}
 use Rattle.pictures.specs.declared.types.Picture.{Picture}
 
 -- a picture: an address, and a place among the pictures that share it, 0 the first
 abbrev pub picture : Address → ℕ → Picture
 picture a place = record { address = a; place = place }
+
+-- how pictures are counted: the rate at which their addresses count, and the place of the last picture that shares an address
+abbrev pub counting : Rate → ℕ → Counting
+counting rate last = record { rate = rate; last = last }
 
 -- more than one picture shares an address
 abbrev pub several : ℕ → Bool

@@ -5,6 +5,8 @@ use mathlib.Core.Path.{◌≡◌, refl, sym, ap, ◌∙◌}
 use mathlib.Core.Bool.{Bool, false, ◌||◌, cond}
 use native.Mathlib.Omega.{arith}
 use lib.Pow.{shr-shr}
+use Rattle.refusals.specs.declared.types.Refusal.TheVariants.{OutsideTheClock}
+use Rattle.refusals.specs.declared.types.Refusal.{Refusal}
 use Rattle.refusals.specs.Answer.{answer}
 use Rattle.refusals.proofs.Answered.{Clear}
 use Rattle.rates.specs.declared.types.Rate.{Rate}
@@ -20,8 +22,8 @@ use Rattle.superframes.specs.Bare.{without, bare}
 
 -- of a record without the two, 8 alone can be given
 pub eight_alone :
-    {A : Type 0} (refused : ℕ → A) (accepted : A) (rate : Rate) (bad : Bool) (r : Record)
-    → answer refused (record_refusals rate bad false (bare r)) accepted ≡ cond (bad || outside (frames_in_second rate) r.address) (refused 8) accepted
+    {A : Type 0} (refused : Refusal → A) (accepted : A) (rate : Rate) (bad : Bool) (r : Record)
+    → answer refused (record_refusals rate bad false (bare r)) accepted ≡ cond (bad || outside (frames_in_second rate) r.address) (refused OutsideTheClock) accepted
 eight_alone refused accepted At24 bad r = refl
 eight_alone refused accepted At25 bad r = refl
 eight_alone refused accepted At30 bad r = refl

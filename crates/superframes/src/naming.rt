@@ -2,14 +2,15 @@
 ghost use Rattle.std.specs.Prelude.{◌≡◌, ◌+◌};
 ghost use Rattle.superframes.specs.Named.{name_of, misnamed};
 
+use pictures::Counting;
 use rates::Rate;
 
 // 32 times 0, 1 or 2 for super-frames of 24, 25 or 30, and the pictures of a super-frame.
-fn name_of(rate: Rate, last: u8) -> u32
-    ensures { result ≡ name_of rate (last + 1) }
+fn name_of(counting: Counting) -> u32
+    ensures { result ≡ name_of counting.rate (counting.last + 1) }
 {
-    let pictures = last as u32 + 1;
-    match rate {
+    let pictures = counting.last as u32 + 1;
+    match counting.rate {
         Rate::At24 => pictures,
         Rate::At25 => 32 + pictures,
         Rate::At30 => 64 + pictures,
@@ -20,8 +21,8 @@ fn name_of(rate: Rate, last: u8) -> u32
 pub fn is_misnamed(mode: u8, second: u8) -> bool
     ensures { result ≡ misnamed mode second }
 {
-    let Ok(rate, last) = modes::high_row_of(mode) else {
+    let Ok(counting) = modes::high_row_of(mode) else {
         return false;
     };
-    second as u32 != name_of(rate, last)
+    second as u32 != name_of(counting)
 }

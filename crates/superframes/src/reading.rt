@@ -6,7 +6,8 @@ ghost use Rattle.superframes.specs.Calls.{unpacked_of, unpacked_in};
 
 use crate::bits::{has_other_set, place_said};
 use layout::flag;
-use rates::{Flag, Rate};
+use pictures::Counting;
+use rates::Flag;
 use record::{Flags, Record};
 use refusals::Refusal;
 
@@ -33,43 +34,36 @@ fn placed_at(place: u8, drop: Flag, r: Record) -> Record
 }
 
 // What is left to judge of bits whose digits and address are inside the clock: the place, drop and the sub-frame bits that are not used.
-fn judged(rate: Rate, last: u8, drop: Flag, second: Flag, r: Record) -> Result<Record, Refusal>
-    ensures { result ≡ judged_of rate (last + 1) drop second r }
+fn judged(counting: Counting, drop: Flag, second: Flag, r: Record) -> Result<Record, Refusal>
+    ensures { result ≡ judged_of counting.rate (counting.last + 1) drop second r }
 {
+    let rate = counting.rate;
+    let last = counting.last;
     let flags = r.flags;
     let first = flags.mark;
     let third = flags.bgf0;
     let place = place_said(last, first, second, third);
     let outside = pictures::is_place_outside(last, place);
     let address = r.address;
-    let found = rates::judge(rate, drop, address, outside, has_other_set(last, flags));
-    match found {
-        Err(number) => Err(number),
-        Ok(()) => Ok(placed_at(place, drop, r)),
-    }
+    rates::judge(rate, drop, address, outside, has_other_set(last, flags))?;
+    Ok(placed_at(place, drop, r))
 }
 
 // At 24 frames `record` turns a set colour bit away, which is sub-frame 2 here: so bits 10 and 11 are kept from it, and judged after it.
-fn unpacked(rate: Rate, last: u8, info: u64) -> Result<Record, Refusal>
-    ensures { result ≡ unpacked_of rate (last + 1) info }
+fn unpacked(counting: Counting, info: u64) -> Result<Record, Refusal>
+    ensures { result ≡ unpacked_of counting.rate (counting.last + 1) info }
 {
+    let rate = counting.rate;
     let rest = info - 0x400 * (info / 0x400 % 4);
-    let held = record::from_bits(rate, rest);
-    match held {
-        Err(number) => Err(number),
-        Ok(r) => {
-            let drop = flag(info / 0x400 % 2);
-            let second = flag(info / 0x800 % 2);
-            judged(rate, last, drop, second, r)
-        }
-    }
+    let held = record::from_bits(rate, rest)?;
+    let drop = flag(info / 0x400 % 2);
+    let second = flag(info / 0x800 % 2);
+    judged(counting, drop, second, held)
 }
 
 pub fn from_bits(mode: u8, info: u64) -> Result<Record, Refusal>
     ensures { result ≡ unpacked_in mode info }
 {
-    let Ok(rate, last) = modes::high_row_of(mode) else {
-        return Err(Refusal::UnknownMode);
-    };
-    unpacked(rate, last, info)
+    let counting = modes::high_row_of(mode)?;
+    unpacked(counting, info)
 }

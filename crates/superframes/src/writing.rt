@@ -6,7 +6,8 @@ ghost use Rattle.superframes.specs.Calls.{packed_of, packed_in};
 
 use crate::bits::{has_flag_besides_drop, three_for};
 use layout::{bit, flag};
-use rates::{Flag, Rate};
+use pictures::Counting;
+use rates::Flag;
 use record::{Flags, Record};
 use refusals::Refusal;
 
@@ -33,34 +34,26 @@ fn bare_flagged(three: u64, r: Record) -> Record
 }
 
 // `record` gives 8 alone of what it is told; the place, 9 and 10 are judged after it, and drop and sub-frame 2 put in: bits 10 and 11.
-fn packed(rate: Rate, last: u8, r: Record) -> Result<u64, Refusal>
-    ensures { result ≡ packed_of rate (last + 1) r }
+fn packed(counting: Counting, r: Record) -> Result<u64, Refusal>
+    ensures { result ≡ packed_of counting.rate (counting.last + 1) r }
 {
+    let rate = counting.rate;
+    let last = counting.last;
     let three = three_for(last, r.place);
-    let made = record::to_bits(rate, bare_flagged(three, r));
-    let Ok(info) = made else {
-        return Err(Refusal::OutsideTheClock);
-    };
+    let info = record::to_bits(rate, bare_flagged(three, r))?;
     let outside = pictures::is_place_outside(last, r.place);
     let flags = r.flags;
     let drop = flags.drop;
     let address = r.address;
-    let found = rates::judge(rate, drop, address, outside, has_flag_besides_drop(flags));
-    match found {
-        Err(number) => Err(number),
-        Ok(()) => {
-            let second = flag(three / 2 % 2);
-            let whole = info + 0x400 * (bit(drop) + 2 * bit(second));
-            Ok(whole)
-        }
-    }
+    rates::judge(rate, drop, address, outside, has_flag_besides_drop(flags))?;
+    let second = flag(three / 2 % 2);
+    let whole = info + 0x400 * (bit(drop) + 2 * bit(second));
+    Ok(whole)
 }
 
 pub fn to_bits(mode: u8, r: Record) -> Result<u64, Refusal>
     ensures { result ≡ packed_in mode r }
 {
-    let Ok(rate, last) = modes::high_row_of(mode) else {
-        return Err(Refusal::UnknownMode);
-    };
-    packed(rate, last, r)
+    let counting = modes::high_row_of(mode)?;
+    packed(counting, r)
 }

@@ -3,32 +3,31 @@
 use mathlib.Core.Path.{◌≡◌}
 use mathlib.Core.Bool.{Bool, true, false}
 use Prim.Native.Nat.{ℕ, ◌+◌}
-use Rattle.std.specs.Prelude.{Err, Result, ℤ}
+use Rattle.std.specs.Prelude.{Ok, Err, Result, ℤ}
 use Rattle.refusals.specs.declared.types.Refusal.TheVariants.{UnknownMode}
 use Rattle.refusals.specs.declared.types.Refusal.{Refusal}
 use Rattle.rates.specs.declared.types.Rate.{Rate}
 use Rattle.rates.specs.declared.types.Flag.{Flag}
 use Rattle.pictures.specs.declared.types.Picture.{Picture}
 use Rattle.pictures.specs.Calls.{span_of}
-use Rattle.modes.specs.Modes.{uncounted, rate_at, pictures_at}
+use Rattle.pictures.specs.declared.types.Counting.{Counting}
+use Rattle.refusals.proofs.Results.{passed_on}
+use Rattle.modes.specs.Modes.{counting_of}
 use Rattle.modes.specs.Calls.{span_in}
-use Rattle.modes.proofs.InMode.{turned_away, by_its_row}
+use Rattle.modes.proofs.InMode.{no_row, by_its_row}
 use Rattle.modes.proofs.counting.distance.Goals as goal
 
-module _ (mode : ℕ) (drop : Flag) (from to : Picture) (past : Bool) (asked : past ≡ uncounted mode) where
-  no_mode : past ≡ true → Err UnknownMode ≡ span_in mode drop from to
+module _ (mode : ℕ) (drop : Flag) (from to : Picture) (row : Result Counting Refusal) (asked : row ≡ counting_of mode) where
+  no_mode : (r : Refusal) → row ≡ Err r → Err r ≡ span_in mode drop from to
   unfolding span_in
-  no_mode e = turned_away Err mode (λ rate pictures. span_of rate pictures drop from to) past asked e
+  no_mode r e = no_row mode (λ rate pictures. span_of rate pictures drop from to) row asked r e
 
-  known :
-      past ≡ false → (rate : Rate) (last : ℕ) (given : Result ℤ Refusal) → rate ≡ rate_at mode → last + 1 ≡ pictures_at mode
-      → given ≡ span_of rate (last + 1) drop from to → given ≡ span_in mode drop from to
+  known : (own : Counting) → row ≡ Ok own → (given : Result ℤ Refusal) → given ≡ span_of own.rate (own.last + 1) drop from to → given ≡ span_in mode drop from to
   unfolding span_in
-  known e rate last given at share told =
-      by_its_row Err mode (λ rate pictures. span_of rate pictures drop from to) past asked e rate last given at share told
+  known own e given told = by_its_row mode (λ rate pictures. span_of rate pictures drop from to) row asked own e given told
 
-pub returns-then-is_uncounted : goal.returns-then-is_uncounted
-returns-then-is_uncounted c = search no_mode
+pub returns-in_err-counting_of : goal.returns-in_err-counting_of
+returns-in_err-counting_of c = passed_on c.from_residual.ensures.1 (search (no_mode, c.in_err-counting_of.was))
 
 pub returns : goal.returns
-returns c = search known
+returns c = search (known, c.in_ok-counting_of.was)

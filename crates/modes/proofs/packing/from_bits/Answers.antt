@@ -3,27 +3,29 @@
 use mathlib.Core.Path.{◌≡◌, ◌∙◌}
 use mathlib.Core.Bool.{Bool, true, false}
 use Prim.Native.Nat.{ℕ}
-use Rattle.std.specs.Prelude.{Err, Result}
+use Rattle.std.specs.Prelude.{Ok, Err, Result}
 use Rattle.refusals.specs.declared.types.Refusal.TheVariants.{UnknownMode}
 use Rattle.record.specs.declared.types.Record.{Record}
 use Rattle.refusals.specs.declared.types.Refusal.{Refusal}
 use Rattle.rates.specs.declared.types.Rate.{Rate}
 use Rattle.record.specs.Calls.{unpacked_of}
-use Rattle.modes.specs.Modes.{unknown, rate_at}
+use Rattle.refusals.proofs.Results.{passed_on}
+use Rattle.modes.specs.Modes.{rated_of}
+use Rattle.modes.proofs.ByRate.{rate_told, rate_refused}
 use Rattle.modes.specs.Calls.{unpacked_in}
 use Rattle.modes.proofs.packing.from_bits.Goals as goal
 
-module _ (mode : ℕ) (info : ℕ) (past : Bool) (asked : past ≡ unknown mode) where
-  no_mode : past ≡ true → Err UnknownMode ≡ unpacked_in mode info
+module _ (mode : ℕ) (info : ℕ) (rated : Result Rate Refusal) (asked : rated ≡ rated_of mode) where
+  no_mode : (r : Refusal) → rated ≡ Err r → Err r ≡ unpacked_in mode info
   unfolding unpacked_in
-  no_mode e = rw (← asked, e)
+  no_mode r e = let is = rate_refused mode rated asked r e in rw (is.0, is.1)
 
-  known : past ≡ false → (rate : Rate) (given : Result Record Refusal) → rate ≡ rate_at mode → given ≡ unpacked_of rate info → given ≡ unpacked_in mode info
+  known : (rate : Rate) → rated ≡ Ok rate → (given : Result Record Refusal) → given ≡ unpacked_of rate info → given ≡ unpacked_in mode info
   unfolding unpacked_in unpacked_of
-  known e rate given at told = told ∙ rw (← asked, e, at)
+  known rate e given told = let is = rate_told mode rated asked rate e in told ∙ rw (is.0, is.1)
 
-pub returns-then-is_unknown : goal.returns-then-is_unknown
-returns-then-is_unknown c = search no_mode
+pub returns-in_err-rate_of : goal.returns-in_err-rate_of
+returns-in_err-rate_of c = passed_on c.from_residual.ensures.1 (search (no_mode, c.in_err-rate_of.was))
 
 pub returns : goal.returns
-returns c = search known
+returns c = search (known, c.in_ok-rate_of.was)

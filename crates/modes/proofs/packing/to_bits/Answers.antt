@@ -3,7 +3,7 @@
 use mathlib.Core.Path.{◌≡◌, sym, ◌∙◌}
 use mathlib.Core.Bool.{Bool, true, false}
 use Prim.Native.Nat.{ℕ, ◌+◌}
-use Rattle.std.specs.Prelude.{Err, Result}
+use Rattle.std.specs.Prelude.{Ok, Err, Result}
 use Rattle.refusals.specs.declared.types.Refusal.TheVariants.{OutsideTheClock, UnknownMode}
 use Rattle.refusals.specs.declared.types.Refusal.{Refusal}
 use Rattle.rates.specs.declared.types.Rate.{Rate}
@@ -11,34 +11,38 @@ use Rattle.pictures.specs.Pictures.{place_outside}
 use Rattle.record.specs.declared.types.Record.{Record}
 use Rattle.record.specs.Record.{at_place}
 use Rattle.record.specs.Calls.{packed_of}
-use Rattle.modes.specs.Modes.{unknown, rate_at, pictures_at}
+use Rattle.refusals.proofs.Results.{passed_on}
+use Rattle.modes.specs.Modes.{unknown, rate_at, pictures_at, rated_of}
 use Rattle.modes.specs.Calls.{packed_in}
 use Rattle.modes.specs.AtRate.{place_left}
-use Rattle.modes.proofs.ByRate.{packs_at_rate}
+use Rattle.modes.proofs.ByRate.{packs_at_rate, rate_told, rate_refused}
 use Rattle.modes.proofs.packing.to_bits.Goals as goal
 
-module _ (mode : ℕ) (r : Record) (past : Bool) (asked : past ≡ unknown mode) where
-  no_mode : past ≡ true → Err UnknownMode ≡ packed_in mode r
+module _ (mode : ℕ) (r : Record) (rated : Result Rate Refusal) (asked : rated ≡ rated_of mode) where
+  no_mode : (n : Refusal) → rated ≡ Err n → Err n ≡ packed_in mode r
   unfolding packed_in
-  no_mode e = rw (← asked, e)
+  no_mode n e = let is = rate_refused mode rated asked n e in rw (is.0, is.1)
 
   module _
-      (known : past ≡ false) (last : ℕ) (share : last + 1 ≡ pictures_at mode) (out : Bool) (tested : out ≡ place_outside (last + 1) r.place) where
+      (rate : Rate) (known : rated ≡ Ok rate) (last : ℕ) (share : last + 1 ≡ pictures_at mode) (out : Bool) (tested : out ≡ place_outside (last + 1) r.place) where
+    abbrev is : (unknown mode ≡ false) × (rate_at mode ≡ rate)
+    is = rate_told mode rated asked rate known
+
     no_place : out ≡ true → Err OutsideTheClock ≡ packed_in mode r
     unfolding packed_in
-    no_place e = rw (← asked, known, ← share, ← tested, e)
+    no_place e = rw (is.0, ← share, ← tested, e)
 
     packed :
-        out ≡ false → (left : ℕ) → left ≡ place_left (last + 1) r.place → (s : Record) → s ≡ at_place left r → (rate : Rate) → rate ≡ rate_at mode
+        out ≡ false → (left : ℕ) → left ≡ place_left (last + 1) r.place → (s : Record) → s ≡ at_place left r
         → (given : Result ℕ Refusal) → given ≡ packed_of rate s → given ≡ packed_in mode r
-    packed e left is s made rate at given told =
-        told ∙ rw (at, made, is, share) (sym (packs_at_rate mode r (sym asked ∙ known) (rw (← share) (sym tested ∙ e))))
+    packed e left left_is s made given told =
+        told ∙ rw (← is.1, made, left_is, share) (sym (packs_at_rate mode r is.0 (rw (← share) (sym tested ∙ e))))
 
-pub returns-then-is_unknown : goal.returns-then-is_unknown
-returns-then-is_unknown c = search no_mode
+pub returns-in_err-rate : goal.returns-in_err-rate
+returns-in_err-rate c = passed_on c.from_residual.ensures.1 (search (no_mode, c.in_err-rate.was))
 
 pub returns-then-is_place_outside : goal.returns-then-is_place_outside
-returns-then-is_place_outside c = search no_place
+returns-then-is_place_outside c = search (no_place, c.in_ok-rate.was)
 
 pub returns : goal.returns
-returns c = search packed
+returns c = search (packed, c.in_ok-rate.was)

@@ -2,6 +2,7 @@
 -- Assumes nothing.
 use mathlib.Core.Path.{◌≡◌, sym, ap, ◌∙◌}
 use Prim.Native.Nat.{ℕ}
+use Rattle.refusals.proofs.Results.{passed_on}
 use Rattle.refusals.specs.declared.types.Refusal.{Refusal}
 use Rattle.std.specs.Prelude.{Err, Ok, Result}
 use Rattle.record.specs.declared.types.Record.{Record}
@@ -24,8 +25,8 @@ module _ (mode : ℕ) (shows : Shows) (info : ℕ) (held : Result Record Refusal
       → Ok s ≡ shown_in mode shows info
   placed r e place shown s made = rw (made, shown) (ap (shown_as mode shows) (sym e) ∙ told)
 
-pub returns-in-Refused : goal.returns-in-Refused
-returns-in-Refused c = search refused
+pub returns-in_err-held : goal.returns-in_err-held
+returns-in_err-held c = passed_on c.from_residual.ensures.1 (search (refused, c.in_err-held.was))
 
-pub returns-in-Holds : goal.returns-in-Holds
-returns-in-Holds c = search placed
+pub returns : goal.returns
+returns c = search (placed, c.in_ok-held.was)

@@ -4,6 +4,7 @@ use mathlib.Core.Path.{◌≡◌, sym, ◌∙◌}
 use mathlib.Core.Bool.{Bool, true, false}
 use mathlib.Core.List.{[], ◌∷◌}
 use Prim.Native.Nat.{ℕ}
+use Rattle.refusals.proofs.Results.{passed_on}
 use Rattle.std.specs.Prelude.{Err, Ok, Result}
 use Rattle.refusals.specs.declared.types.Refusal.{Refusal}
 use Rattle.refusals.specs.declared.types.Refusal.TheVariants.{MarkSet}
@@ -38,10 +39,10 @@ module _ (mode : ℕ) (shows : Shows) (r : Record) (packed : Result ℕ Refusal)
     made f = sym (whole ∙ rw (← looked, f, (packed_is mode r info (sym asked ∙ e)).1))
 
 pub returns-then-is_unshown : goal.returns-then-is_unshown
-returns-then-is_unshown c = search another_picture
+returns-then-is_unshown c = search (another_picture, c.in_ok-info.was)
 
-pub returns-in-Refused : goal.returns-in-Refused
-returns-in-Refused c = search refused
+pub returns-in_err-info : goal.returns-in_err-info
+returns-in_err-info c = passed_on c.from_residual.ensures.1 (search (refused, c.in_err-info.was))
 
-pub returns-else-is_unshown : goal.returns-else-is_unshown
-returns-else-is_unshown c = search made
+pub returns : goal.returns
+returns c = search (made, c.in_ok-info.was)

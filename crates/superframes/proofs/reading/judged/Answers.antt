@@ -3,6 +3,7 @@
 use Prim.Native.Nat.{ℕ, ◌+◌}
 use mathlib.Core.Path.{◌≡◌, ap, ◌∙◌}
 use mathlib.Core.Bool.{Bool}
+use Rattle.refusals.proofs.Results.{passed_on}
 use Rattle.refusals.specs.declared.types.Refusal.{Refusal}
 use Rattle.std.specs.Prelude.{Err, Ok, Result}
 use Rattle.refusals.specs.Answer.{Cause, verdict_of}
@@ -35,8 +36,8 @@ module _
   held : found ≡ Ok tt → (s : Record) → s ≡ placed_at place drop r → Ok s ≡ judged_of rate (last + 1) drop second r
   held sound s made = ap Ok made ∙ (rw said (passed_by Err _ rows found judged_so sound))
 
-pub returns-in-Refused : goal.returns-in-Refused
-returns-in-Refused c = search refused
+pub returns-in_err-judge : goal.returns-in_err-judge
+returns-in_err-judge c = passed_on c.from_residual.ensures.1 (search (refused, c.in_err-judge.was))
 
-pub returns-in-Sound : goal.returns-in-Sound
-returns-in-Sound c = search held
+pub returns : goal.returns
+returns c = search (held, c.in_ok-judge.was)

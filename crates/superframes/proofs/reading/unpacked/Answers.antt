@@ -8,6 +8,7 @@ use Rattle.refusals.specs.declared.types.Refusal.{Refusal}
 use Rattle.std.specs.Prelude.{Err, Ok, Result}
 use Rattle.refusals.specs.declared.types.Refusal.TheVariants.{OutsideTheClock}
 use Rattle.refusals.proofs.Answered.{neither}
+use Rattle.refusals.proofs.Results.{not_accepted, passed_on}
 use Rattle.rates.specs.declared.types.Rate.{Rate}
 use Rattle.rates.specs.declared.types.Flag.{Flag}
 use Rattle.rates.specs.Rates.{frames_in_second}
@@ -46,12 +47,11 @@ module _ (rate : Rate) (last info : ℕ) (held : Result Record Refusal) (asked :
     where
       go : (t : Bool) → bad ≡ t → Err n ≡ unpacked_of rate (last + 1) info
       go true t =
-          let eight : Err n ≡ Err OutsideTheClock = sym e ∙ as_found ∙ rw t in
+          let eight : ◌≡◌ {A = Result Record Refusal} (Err n) (Err OutsideTheClock) = sym e ∙ as_found ∙ rw t in
           let first = sooner (digit_above_9 info) (place_outside (last + 1) (place_in (last + 1) whole.flags)) (outside (frames_in_second rate) whole.address) t in
           eight ∙ rw first
       go false t =
-          let other : Err n ≡ Ok (bare whole) = sym e ∙ as_found ∙ rw t in
-          let z : ◌≡◌ {A = ℕ} 0 1 = cc in absurd (omega arith)
+          let other : Err n ≡ Ok (bare whole) = sym e ∙ as_found ∙ rw t in absurd (not_accepted n other)
 
   went_on :
       (r : Record) → held ≡ Ok r → (drop second : Flag) → drop ≡ flag_of (info / 1024 % 2) → second ≡ flag_of (info / 2048 % 2) → (given : Result Record Refusal)
@@ -61,16 +61,15 @@ module _ (rate : Rate) (last info : ℕ) (held : Result Record Refusal) (asked :
     where
       go : (t : Bool) → bad ≡ t → given ≡ unpacked_of rate (last + 1) info
       go true t =
-          let other : Ok r ≡ Err OutsideTheClock = sym e ∙ as_found ∙ rw t in
-          let z : ◌≡◌ {A = ℕ} 0 1 = cc in absurd (omega arith)
+          let other : Err OutsideTheClock ≡ Ok r = sym (sym e ∙ as_found ∙ rw t) in absurd (not_accepted OutsideTheClock other)
       go false t =
-          let own : Ok r ≡ Ok (bare whole) = sym e ∙ as_found ∙ rw t in
+          let own : ◌≡◌ {A = Result Record Refusal} (Ok r) (Ok (bare whole)) = sym e ∙ as_found ∙ rw t in
           let same : r ≡ bare whole = cc in
           let clear = neither (digit_above_9 info) _ t in
           told ∙ rw (same, first, next, clear.0)
 
-pub returns-in-Refused : goal.returns-in-Refused
-returns-in-Refused c = search refused
+pub returns-in_err-held : goal.returns-in_err-held
+returns-in_err-held c = passed_on c.from_residual.ensures.1 (search (refused, c.in_err-held.was))
 
-pub returns-in-Holds : goal.returns-in-Holds
-returns-in-Holds c = search went_on
+pub returns : goal.returns
+returns c = search (went_on, c.in_ok-held.was)

@@ -9,6 +9,7 @@ use Rattle.refusals.specs.declared.types.Refusal.{Refusal}
 use Rattle.refusals.specs.declared.types.Refusal.TheVariants.{OutsideTheClock}
 use Rattle.refusals.specs.Answer.{verdict_of}
 use Rattle.refusals.proofs.Answered.{neither}
+use Rattle.refusals.proofs.Results.{not_accepted, passed_on}
 use Rattle.refusals.proofs.Verdicts.{refused_by, passed_by}
 use Rattle.rates.specs.declared.types.Rate.{Rate}
 use Rattle.rates.specs.declared.types.Flag.{Flag}
@@ -36,10 +37,6 @@ alone : (a b : Bool) → b ≡ false → (a || b) ≡ a
 alone true b e = refl
 alone false b e = e
 
-bits_in : Result ℕ Refusal → ℕ
-bits_in (Ok n) = n
-bits_in (Err n) = n
-
 module _ (rate : Rate) (last : ℕ) (r : Record) (three : ℕ) (spread_so : three ≡ three_for (last + 1) r.place) (told_of : Record)
     (without : told_of ≡ bare (flagged three r)) (made : Result ℕ Refusal) (asked : made ≡ at_rate.packed_of rate told_of) where
   abbrev whole : Record
@@ -52,29 +49,26 @@ module _ (rate : Rate) (last : ℕ) (r : Record) (three : ℕ) (spread_so : thre
   unfolding at_rate.packed_of
   as_made = asked ∙ rw (without, spread_so) (eight_alone Err (Ok (info_of rate (bare whole))) rate (group_above_15 r.groups) whole)
 
-  refused : (n : Refusal) → made ≡ Err n → Err OutsideTheClock ≡ packed_of rate (last + 1) r
+  refused : (n : Refusal) → made ≡ Err n → Err n ≡ packed_of rate (last + 1) r
   unfolding packed_of
   refused n e = go bad refl
     where
-      go : (t : Bool) → bad ≡ t → Err OutsideTheClock ≡ packed_of rate (last + 1) r
+      go : (t : Bool) → bad ≡ t → Err n ≡ packed_of rate (last + 1) r
       go true t =
-          let first = sooner (place_outside (last + 1) r.place) (group_above_15 r.groups) (outside (frames_in_second rate) r.address) t in rw first
-      go false t =
-          let other : Err n ≡ Ok (info_of rate (bare whole)) = sym e ∙ as_made ∙ rw t in
-          let z : ◌≡◌ {A = ℕ} 0 1 = cc in absurd (omega arith)
+          let eight : ◌≡◌ {A = Result ℕ Refusal} (Err n) (Err OutsideTheClock) = sym e ∙ as_made ∙ rw t in
+          let first = sooner (place_outside (last + 1) r.place) (group_above_15 r.groups) (outside (frames_in_second rate) r.address) t in eight ∙ rw first
+      go false t = let other : Err n ≡ Ok (info_of rate (bare whole)) = sym e ∙ as_made ∙ rw t in absurd (not_accepted n other)
 
   module _ (info : ℕ) (e : made ≡ Ok info) where
     stands : ((group_above_15 r.groups ≡ false) × (outside (frames_in_second rate) r.address ≡ false)) × (info_of rate (bare whole) ≡ info)
-    unfolding bits_in
     stands = go bad refl
       where
         go : (t : Bool) → bad ≡ t → ((group_above_15 r.groups ≡ false) × (outside (frames_in_second rate) r.address ≡ false)) × (info_of rate (bare whole) ≡ info)
         go true t =
-            let other : Ok info ≡ Err OutsideTheClock = sym e ∙ as_made ∙ rw t in
-            let z : ◌≡◌ {A = ℕ} 0 1 = cc in absurd (omega arith)
+            let other : Err OutsideTheClock ≡ Ok info = sym (sym e ∙ as_made ∙ rw t) in absurd (not_accepted OutsideTheClock other)
         go false t =
-            let own : Ok info ≡ Ok (info_of rate (bare whole)) = sym e ∙ as_made ∙ rw t in
-            (neither (group_above_15 r.groups) _ t, sym (ap bits_in own))
+            let own : ◌≡◌ {A = Result ℕ Refusal} (Ok info) (Ok (info_of rate (bare whole))) = sym e ∙ as_made ∙ rw t in
+            (neither (group_above_15 r.groups) _ t, cc)
 
     module _ (drop_bit second_bit : ℕ) (second : Flag) (dropped : drop_bit ≡ bit_of r.flags.drop) (next : second ≡ flag_of (three / 2 % 2))
         (seconded : second_bit ≡ bit_of second) where
@@ -100,14 +94,14 @@ module _ (rate : Rate) (last : ℕ) (r : Record) (three : ℕ) (spread_so : thre
       taken sound drop_bit second_bit second dropped next seconded =
           ap Ok (whole_bits drop_bit second_bit second dropped next seconded) ∙ passed_by Err _ (write_refusals rate (last + 1) r) found judged_so sound
 
-pub returns-in_default : goal.returns-in_default
-returns-in_default c = search refused
+pub returns-in_err-info : goal.returns-in_err-info
+returns-in_err-info c = passed_on c.from_residual.ensures.1 (search (refused, c.in_err-info.was))
 
-pub overflow_add-whole-in-Sound : goal.overflow_add-whole-in-Sound
-overflow_add-whole-in-Sound c = search fits
+pub overflow_add-whole-2 : goal.overflow_add-whole-2
+overflow_add-whole-2 c = search (fits, c.in_ok-info.was)
 
-pub returns-in-Refused : goal.returns-in-Refused
-returns-in-Refused c = search turned_away
+pub returns-in_err-judge : goal.returns-in_err-judge
+returns-in_err-judge c = passed_on c.from_residual-in_err-judge.ensures.1 (search (turned_away, c.in_ok-info.was, c.in_err-judge.was))
 
-pub returns-in-Sound : goal.returns-in-Sound
-returns-in-Sound c = search taken
+pub returns : goal.returns
+returns c = search (taken, c.in_ok-info.was, c.in_ok-judge.was)
