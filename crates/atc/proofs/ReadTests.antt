@@ -1,6 +1,6 @@
 -- What each answer of a read leads to once the form is judged: the type and the second byte are refused, or the record answers.
 -- Assumes nothing.
-use mathlib.Core.Path.{◌≡◌, sym, ◌∙◌}
+use mathlib.Core.Path.{ap, ◌≡◌, sym, ◌∙◌}
 use Prim.Native.Nat.{ℕ, ◌≤◌}
 use native.Mathlib.Omega.{arith}
 use mathlib.Core.List.{List}
@@ -19,7 +19,7 @@ use Rattle.packets.specs.Packet.{type_in, second_in}
 use Rattle.packets.specs.Calls.{form_refusals}
 use Rattle.atc.specs.declared.types.Interface.{Interface}
 use Rattle.atc.specs.Records.{held_for}
-use Rattle.atc.specs.Calls.{payload_refusals, read_refusals, packet_as, read_of}
+use Rattle.atc.specs.Calls.{contents_with, payload_refusals, read_refusals, packet_as, read_of}
 use Rattle.atc.proofs.Answers.{size, past_the_form, past_the_payload}
 
 module _ (mode : ℕ) (interface : Interface) (words : List ℕ) (found : Result Unit Refusal) (judged : found ≡ verdict_of (form_refusals mode words)) where
@@ -49,8 +49,14 @@ module _ (mode : ℕ) (interface : Interface) (words : List ℕ) (found : Result
 
       module _ (fit : carried ≡ Ok tt) (info : ℕ) (gathered : info ≡ info_in (take 16 (drop 6 words))) (unpacked : Result Record Refusal)
           (said : unpacked ≡ held_for mode type info) where
-        pub held : (packet : Result Contents Refusal) → packet ≡ packet_as type second unpacked → packet ≡ read_of mode interface words
-        held packet e =
+        told : packet_as type second unpacked ≡ read_of mode interface words
+        told =
             let before = rows_before OutsideTheClock (read_refusals mode interface words) in
             let fits = sound_clear (payload_refusals mode interface (type_in words) (second_in words)) carried of_words fit in
-            e ∙ rw (said, gathered, typed, next) (sym (past_the_payload mode interface words (clear_whole UnknownType before clear fits)))
+            rw (said, gathered, typed, next) (sym (past_the_payload mode interface words (clear_whole UnknownType before clear fits)))
+
+        pub unheld : (n : Refusal) → unpacked ≡ Err n → Err n ≡ read_of mode interface words
+        unheld n e = ap (packet_as type second) (sym e) ∙ told
+
+        pub held : (r : Record) → unpacked ≡ Ok r → Ok (contents_with r type second) ≡ read_of mode interface words
+        held r e = ap (packet_as type second) (sym e) ∙ told

@@ -54,7 +54,7 @@ module _ (mode : ℕ) (interface : Interface) (r : Record) (type second start : 
     unfolding written_of run_of
     no_payload n e = (
       rw known (refused_by Err _ payload_rows (verdict_of payload_rows) refl n e),
-      rw known (refused_by (λ (k : ℕ). run) _ payload_rows (verdict_of payload_rows) refl n e),
+      rw known (refused_by (λ (_ : Refusal). run) _ payload_rows (verdict_of payload_rows) refl n e),
     )
 
     module _ (fit : verdict_of payload_rows ≡ Ok tt) where
@@ -66,9 +66,9 @@ module _ (mode : ℕ) (interface : Interface) (r : Record) (type second start : 
       unfolding written_of run_of made_for
       no_record n e = (
         refused_by_rows record_rows (info_for mode r) Err _ n e ∙ past_mode Err _ ∙ sym (answer_from Err _ OutsideTheClock rows front),
-        refused_by_rows record_rows (info_for mode r) (λ (k : ℕ). run) _ n e
-            ∙ past_mode (λ (k : ℕ). run) _
-            ∙ sym (answer_from (λ (k : ℕ). run) _ OutsideTheClock rows front),
+        refused_by_rows record_rows (info_for mode r) (λ (_ : Refusal). run) _ n e
+            ∙ past_mode (λ (_ : Refusal). run) _
+            ∙ sym (answer_from (λ (_ : Refusal). run) _ OutsideTheClock rows front),
       )
 
       -- the packet was placed, or there was no room for it: what came back is what the write answers
@@ -86,5 +86,5 @@ module _ (mode : ℕ) (interface : Interface) (r : Record) (type second start : 
             answered_so ∙ sym (otherwise_accepted Err (written_by (room_refusals 23 start run)) before clear),
             left_so
                 ∙ rw (← made.1)
-                (sym (otherwise_accepted (λ (k : ℕ). run) (run_after (room_refusals 23 start run) start word run) before clear)),
+                (sym (otherwise_accepted (λ (_ : Refusal). run) (run_after (room_refusals 23 start run) start word run) before clear)),
           )

@@ -1,9 +1,8 @@
 // From 23 words to record, type and second byte.
 ghost use Rattle.std.specs.Prelude.{◌≡◌, ◌≤◌, length};
 ghost use Rattle.words.specs.Words.{info_in, byte_in};
-ghost use Rattle.atc.specs.Calls.{packet_as, read_of};
+ghost use Rattle.atc.specs.Calls.{read_of};
 
-use record::Record;
 use crate::payload;
 use crate::types::{Contents, Interface};
 use refusals::Refusal;
@@ -36,33 +35,17 @@ fn byte_in(words: &[u16]) -> u8
     byte
 }
 
-// What the record's own answer comes to, with the type and the second byte beside it.
-fn packet_as(payload_type: u8, second: u8, unpacked: Result<Record, Refusal>) -> Result<Contents, Refusal>
-    ensures { result ≡ packet_as payload_type second unpacked }
-{
-    match unpacked {
-        Err(number) => Err(number),
-        Ok(record) => Ok(Contents {
-            record,
-            payload_type,
-            second,
-        }),
-    }
-}
-
 pub fn read(mode: u8, interface: Interface, words: &[u16]) -> Result<Contents, Refusal>
     ensures { result ≡ read_of mode interface words.now }
 {
-    let found = packets::judge(mode, words);
-    if let Err(number) = found {
-        return Err(number);
-    }
+    packets::judge(mode, words)?;
     let payload_type = byte_in(&words[6..14]);
     let second = byte_in(&words[14..22]);
-    let carried = payload::judge(mode, interface, payload_type, second);
-    if let Err(number) = carried {
-        return Err(number);
-    }
-    let unpacked = payload::record_in(mode, payload_type, info_in(&words[6..22]));
-    packet_as(payload_type, second, unpacked)
+    payload::judge(mode, interface, payload_type, second)?;
+    let record = payload::record_in(mode, payload_type, info_in(&words[6..22]))?;
+    Ok(Contents {
+        record,
+        payload_type,
+        second,
+    })
 }

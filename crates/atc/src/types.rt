@@ -15,9 +15,3 @@ pub struct Contents {
     pub payload_type: u8,
     pub second: u8,
 }
-
-#[derive(Clone, Copy)]
-pub enum Packet {
-    Holds(Contents),
-    Refused(u8),
-}

@@ -22,13 +22,7 @@ pub fn write(
     if modes::is_uncounted(mode) {
         return Err(Refusal::UnknownMode);
     }
-    let carried = payload::judge(mode, interface, payload_type, second);
-    if let Err(number) = carried {
-        return Err(number);
-    }
-    let packed = payload::bits_of(mode, payload_type, r);
-    match packed {
-        Err(number) => Err(number),
-        Ok(info) => packets::place(mode, info, payload_type, second, start, run),
-    }
+    payload::judge(mode, interface, payload_type, second)?;
+    let info = payload::bits_of(mode, payload_type, r)?;
+    packets::place(mode, info, payload_type, second, start, run)
 }

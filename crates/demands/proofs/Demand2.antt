@@ -37,7 +37,7 @@ use Rattle.modes.proofs.Counted.{number_by_row, picture_by_row}
 use Rattle.trips.proofs.Numbers.{one_to_one}
 use Rattle.polarity.specs.declared.types.Found.{Found}
 use Rattle.polarity.specs.declared.types.Found.TheVariants.{Corrected, Uncorrected}
-use Rattle.polarity.specs.Word.{sync_word, word_with, odd_zeros, polarity_bit, found_in, word_of}
+use Rattle.polarity.specs.Word.{reading, sync_word, word_with, odd_zeros, polarity_bit, found_in, word_of}
 use Rattle.ltc.specs.Calls.{read_of}
 use Rattle.trips.proofs.Polarity.{odd_found}
 use Rattle.trips.proofs.Five.{five_exactly}

@@ -36,3 +36,4 @@ pub mod Numbers
 pub mod Refused
 pub mod Tests
 pub mod Counting
+use Rattle.pictures.specs.declared.types.Counting.{Counting}

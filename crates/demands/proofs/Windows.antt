@@ -13,12 +13,12 @@ use lib.ListN.{length, drop}
 use borrow.Author.Tests.{eqb-true, eq-eqb, le-ltb}
 use Rattle.polarity.specs.declared.types.Word.{Word}
 use Rattle.refusals.specs.declared.types.Refusal.{Refusal}
-use Rattle.std.specs.Prelude.{Err, Result}
+use Rattle.std.specs.Prelude.{Err, Result, Ok}
 use Rattle.runs.specs.Run.{same}
 use Rattle.runs.proofs.Same.{same_elements, same_itself, both_true}
 use Rattle.record.specs.declared.types.Record.{Record}
 use Rattle.polarity.specs.declared.types.Found.{Found}
-use Rattle.polarity.specs.Word.{sync_word}
+use Rattle.polarity.specs.Word.{reading, sync_word}
 use Rattle.ltc.specs.Calls.{read_of}
 use Rattle.modes.specs.Modes.{unknown}
 use Rattle.register.specs.declared.types.Reader.{Reader}

@@ -10,7 +10,7 @@ use Rattle.record.specs.Record.{marked}
 use Rattle.modes.specs.Calls.{information_in}
 use Rattle.polarity.specs.declared.types.Found.{Found}
 use Rattle.polarity.specs.declared.types.Found.TheVariants.{Corrected, Uncorrected}
-use Rattle.polarity.specs.Word.{word_with, odd_zeros}
+use Rattle.polarity.specs.Word.{reading, word_with, odd_zeros}
 use Rattle.ltc.specs.Calls as ltc
 use Rattle.vitc.specs.Calls as vitc
 use Rattle.atc.specs.declared.types.Interface.{Interface}

@@ -7,6 +7,7 @@ use mathlib.Core.Bool.{false}
 use mathlib.Core.List.{List, [], ◌∷◌, ◌++◌, map}
 use native.Mathlib.Omega.{arith}
 use lib.ListN.{get_or, get_or-append}
+use Rattle.std.specs.Prelude.{Ok}
 use Rattle.refusals.specs.declared.types.Refusal.TheVariants.{OutsideTheClock}
 use Rattle.refusals.proofs.ByNumber.{clear_from}
 use Rattle.bits.specs.Bits.{to_bits, some_above}
@@ -16,7 +17,7 @@ use Rattle.record.specs.declared.types.Record.{Record}
 use Rattle.following.proofs.Digits.{digits, small_digits}
 use Rattle.modes.specs.Modes.{rate_at}
 use Rattle.polarity.specs.declared.types.Found.{Found}
-use Rattle.polarity.specs.Word.{sync_word, word_with, info_in}
+use Rattle.polarity.specs.Word.{reading, sync_word, word_with, info_in}
 use Rattle.ltc.specs.Calls.{read_refusals, read_of}
 use Rattle.trips.proofs.Words.{read_clear, whole}
 

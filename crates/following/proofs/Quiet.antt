@@ -11,9 +11,9 @@ use lib.ListN.{length, drop, length-reverse, length-drop}
 use borrow.Author.Tests.{ltb-true, ltb-false}
 use Rattle.polarity.specs.declared.types.Word.{Word}
 use Rattle.refusals.specs.declared.types.Refusal.{Refusal}
-use Rattle.std.specs.Prelude.{Err, Result}
+use Rattle.std.specs.Prelude.{Err, Result, Ok}
 use Rattle.runs.proofs.Same.{not_same}
-use Rattle.polarity.specs.Word.{sync_word}
+use Rattle.polarity.specs.Word.{reading, sync_word}
 use Rattle.ltc.specs.Calls.{read_of}
 use Rattle.register.specs.declared.types.Ways.{Ways}
 use Rattle.register.specs.declared.types.Ways.TheVariants.{ForwardOnly, Both}

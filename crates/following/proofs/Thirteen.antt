@@ -10,7 +10,7 @@ use lib.Dec.{ltb, eqb}
 use lib.ListN.{length, drop}
 use Rattle.polarity.specs.declared.types.Word.{Word}
 use Rattle.refusals.specs.declared.types.Refusal.{Refusal}
-use Rattle.std.specs.Prelude.{Err, Result}
+use Rattle.std.specs.Prelude.{Err, Result, Ok}
 use Rattle.refusals.specs.declared.types.Refusal.TheVariants.{StateNotReached}
 use Rattle.refusals.proofs.Answered.{carried, given_below}
 use Rattle.runs.specs.Run.{same}
@@ -18,7 +18,7 @@ use Rattle.rates.specs.declared.types.Flag.TheVariants.{No}
 use Rattle.record.specs.Record.{marked}
 use Rattle.modes.specs.Modes.{unknown}
 use Rattle.modes.specs.Calls.{record_in}
-use Rattle.polarity.specs.Word.{sync_word, info_in, found_in}
+use Rattle.polarity.specs.Word.{reading, sync_word, info_in, found_in}
 use Rattle.ltc.specs.Calls.{read_refusals, read_of}
 use Rattle.register.specs.declared.types.Reader.{Reader}
 use Rattle.register.specs.declared.types.Ways.{Ways}

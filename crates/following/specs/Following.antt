@@ -4,7 +4,8 @@
 -- and not later." A3, of readers that hear both ways: "forward or backward words, all one way, are each reported at their last bit, and false reports are
 -- shut out only after the last bit of the first whole word. A fed run that turns in the middle is covered again from the first whole word after the turn."
 -- Assumes nothing.
-use Rattle.std.specs.Prelude.{ℕ, ◌≤◌, ◌≡◌, false, List, [], ◌∷◌, ◌++◌, length, drop, replicate}
+use Rattle.polarity.specs.Word.{reading}
+use Rattle.std.specs.Prelude.{ℕ, ◌≤◌, ◌≡◌, false, List, [], ◌∷◌, ◌++◌, length, drop, replicate, Ok}
 use Rattle.record.specs.declared.types.Record.{Record}
 use Rattle.modes.specs.Modes.{unknown}
 use Rattle.polarity.specs.declared.types.Found.{Found}

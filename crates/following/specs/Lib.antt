@@ -6,3 +6,4 @@ pub mod Reach
 pub mod Counting
 pub mod Cuts
 pub mod Following
+use Rattle.pictures.specs.declared.types.Counting.{Counting}

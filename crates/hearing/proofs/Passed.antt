@@ -4,14 +4,14 @@ use Prim.Native.Nat.{ℕ}
 use mathlib.Core.Path.{◌≡◌, refl, ◌∙◌}
 use mathlib.Core.Bool.{true}
 use mathlib.Core.List.{List}
-use Rattle.std.specs.Prelude.{Err}
+use Rattle.std.specs.Prelude.{Err, Ok}
 use Rattle.refusals.specs.Answer.{test_of}
 use Rattle.refusals.proofs.Answered.{kept, carried}
 use Rattle.refusals.proofs.ByNumber.{not_clear}
 use Rattle.rates.specs.declared.types.Flag.TheVariants.{No}
 use Rattle.record.specs.Record.{marked}
 use Rattle.modes.specs.Calls.{record_in}
-use Rattle.polarity.specs.Word.{info_in, found_in}
+use Rattle.polarity.specs.Word.{reading, info_in, found_in}
 use Rattle.ltc.specs.Calls.{read_refusals, read_of}
 use Rattle.register.specs.declared.types.Ways.{Ways}
 use Rattle.register.specs.declared.types.Ways.TheVariants.{ForwardOnly, Both}

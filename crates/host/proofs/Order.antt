@@ -120,7 +120,7 @@ module _ (mode : ℕ) (r : PlainRecord) (start : ℕ) (run : List ℕ) where
       let none = flag_above_1 r || no_make make in
       let rows = ltc.written_rows mode (record_given r) start run in (
         ap written_code (one_list Err none (Ok tt) 1 rows),
-        one_list (λ (n : ℕ). run) none (placed start (word_of mode (record_given r) (make_given make)) run) 1 rows,
+        one_list (λ (_ : Refusal). run) none (placed start (word_of mode (record_given r) (make_given make)) run) 1 rows,
         refl,
       )
 
@@ -133,7 +133,7 @@ module _ (mode : ℕ) (r : PlainRecord) (start : ℕ) (run : List ℕ) where
   vitc_one_list =
       let rows = vitc.written_rows mode (record_given r) start run in (
         ap written_code (one_list Err (flag_above_1 r) (Ok tt) 1 rows),
-        one_list (λ (n : ℕ). run) (flag_above_1 r) (placed start (vitc.line_of mode (record_given r)) run) 1 rows,
+        one_list (λ (_ : Refusal). run) (flag_above_1 r) (placed start (vitc.line_of mode (record_given r)) run) 1 rows,
         refl,
       )
 
@@ -150,7 +150,7 @@ atc_one_list mode interface c start run =
     let none = flag_above_1 c.«record» || no_interface interface in
     let rows = atc.written_rows mode (interface_given interface) (record_given c.«record») c.payload_type c.second start run in (
       ap written_code (one_list Err none (Ok tt) 1 rows),
-      one_list (λ (n : ℕ). run) none (placed start (atc.packet_of mode (record_given c.«record») c.payload_type c.second) run) 1 rows,
+      one_list (λ (_ : Refusal). run) none (placed start (atc.packet_of mode (record_given c.«record») c.payload_type c.second) run) 1 rows,
       refl,
     )
 

@@ -17,15 +17,15 @@ module _ (before : List Cause) (none : Bool) (run : List ℕ) (written : Result 
   -- the code, and the run afterwards, as a host has them
   abbrev Wrote : ℕ → List ℕ → Type 0
   Wrote n out =
-      (n ≡ written_code (answer Err (then_unnamed before none) written)) × (out ≡ answer (λ (k : ℕ). run) (then_unnamed before none) left)
+      (n ≡ written_code (answer Err (then_unnamed before none) written)) × (out ≡ answer (λ (_ : Refusal). run) (then_unnamed before none) left)
 
   pub turned_away : none ≡ true → (k : ℕ) → k ≡ answer (λ (n : ℕ). n) before ElementTooHigh → Wrote k run
-  turned_away e k is = (ap written_code (unnamed Err before none written k e is), unnamed (λ (n : ℕ). run) before none left k e is)
+  turned_away e k is = (ap written_code (unnamed Err before none written k e is), unnamed (λ (_ : Refusal). run) before none left k e is)
 
   pub answered :
       none ≡ false → (rest rows : List Cause) → rows ≡ before ++ rest → written ≡ written_by rows
       → (start : ℕ) (word : List ℕ) → left ≡ run_after rows start word run → (n : ℕ) → n ≡ written_code written → Wrote n left
   answered e rest rows begins by start word leaves n told = (
     told ∙ ap written_code (named Err before rest rows begins none (Ok tt) written e by),
-    named (λ (k : ℕ). run) before rest rows begins none (placed start word run) left e leaves,
+    named (λ (_ : Refusal). run) before rest rows begins none (placed start word run) left e leaves,
   )

@@ -33,7 +33,7 @@ ltc_written mode r make start run = written_code (answer Err (ltc_rows mode r ma
 -- "A refused write leaves every element"
 unfoldable pub ltc_run : ℕ → PlainRecord → ℕ → ℕ → List ℕ → List ℕ
 ltc_run mode r make start run =
-    answer (λ (n : ℕ). run) (ltc_rows mode r make) (ltc.run_of mode (record_given r) (make_given make) start run)
+    answer (λ (_ : Refusal). run) (ltc_rows mode r make) (ltc.run_of mode (record_given r) (make_given make) start run)
 
 abbrev pub vitc_rows : ℕ → PlainRecord → List Cause
 vitc_rows mode r = then_unnamed (with_mode mode []) (flag_above_1 r)
@@ -42,7 +42,7 @@ unfoldable pub vitc_written : ℕ → PlainRecord → ℕ → List ℕ → ℕ
 vitc_written mode r start run = written_code (answer Err (vitc_rows mode r) (vitc.written_of mode (record_given r) start run))
 
 unfoldable pub vitc_run : ℕ → PlainRecord → ℕ → List ℕ → List ℕ
-vitc_run mode r start run = answer (λ (n : ℕ). run) (vitc_rows mode r) (vitc.run_of mode (record_given r) start run)
+vitc_run mode r start run = answer (λ (_ : Refusal). run) (vitc_rows mode r) (vitc.run_of mode (record_given r) start run)
 
 -- 1 not exactly 23 elements; 2 a mode in which nothing is counted; 3 an interface that is none; and else as the read answers
 abbrev pub open_rows : ℕ → ℕ → List ℕ → List Cause
@@ -64,5 +64,5 @@ atc_written mode interface c start run =
 
 unfoldable pub atc_run : ℕ → ℕ → PlainContents → ℕ → List ℕ → List ℕ
 atc_run mode interface c start run =
-    answer (λ (n : ℕ). run) (atc_rows mode interface c)
+    answer (λ (_ : Refusal). run) (atc_rows mode interface c)
     (atc.run_of mode (interface_given interface) (record_given c.«record») c.payload_type c.second start run)

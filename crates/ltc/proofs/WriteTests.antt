@@ -37,10 +37,11 @@ module _ (mode start : ℕ) (r : Record) (make : Found) (run : List ℕ) (rated 
   abbrev pub Outcome : Result Unit Refusal → List ℕ → Type 0
   Outcome answered left = (answered ≡ written_of mode r start run) × (left ≡ run_of mode r make start run)
 
-  pub no_mode : (n : Refusal) → rated ≡ Err n → Outcome (Err UnknownMode) run
+  pub no_mode : (n : Refusal) → rated ≡ Err n → Outcome (Err n) run
   unfolding written_of run_of written_rows
   no_mode n e =
-      turned_away (written_rows mode r start run) start (word_of mode r make) run UnknownMode tt (rate_refused mode rated named n e).0
+      let is = rate_refused mode rated named n e in
+      rw is.1 (turned_away (written_rows mode r start run) start (word_of mode r make) run UnknownMode tt is.0)
 
   module _ (rate : Rate) (is : rated ≡ Ok rate) (found : Result ℕ Refusal) (packs : found ≡ carried_in mode First r) where
     own : (unknown mode ≡ false) × (rate_at mode ≡ rate)
@@ -65,7 +66,7 @@ module _ (mode start : ℕ) (r : Record) (make : Found) (run : List ℕ) (rated 
     unfolding written_of run_of written_rows
     by_the_record n e = (
       uncarried_as mode r First Err _ n (sym packs ∙ e) ∙ refused_alike Err (Ok tt) room,
-      uncarried_as mode r First (λ (k : ℕ). run) _ n (sym packs ∙ e) ∙ refused_alike (λ (k : ℕ). run) (placed start (word_of mode r make) run) room,
+      uncarried_as mode r First (λ (_ : Refusal). run) _ n (sym packs ∙ e) ∙ refused_alike (λ (_ : Refusal). run) (placed start (word_of mode r make) run) room,
     )
 
     module _ (n : ℕ) (e : found ≡ Ok n) (yes : Bool) (asked : yes ≡ is_yes r.flags.mark) where

@@ -3,7 +3,7 @@
 use Rattle.refusals.specs.declared.types.Refusal.TheVariants.{ElementTooHigh, MarkSet, NoRoom, UnknownMode, WrongCheck, WrongLength, WrongSync}
 use Rattle.polarity.specs.declared.types.Word.{Word}
 use Rattle.refusals.specs.declared.types.Refusal.{Refusal}
-use Rattle.std.specs.Prelude.{ℕ, Bool, not, ◌||◌, List, [], ◌∷◌, ◌++◌, eqb, length, drop, Err, Result}
+use Rattle.std.specs.Prelude.{ℕ, Bool, not, ◌||◌, List, [], ◌∷◌, ◌++◌, eqb, length, drop, Err, Result, Ok}
 use Rattle.refusals.specs.Answer.{Cause, ◌when◌, answer}
 use Rattle.bits.specs.Bits.{some_above}
 use Rattle.runs.specs.Run.{lacks_room, written_by, run_after, same}
@@ -16,7 +16,7 @@ use Rattle.modes.specs.Calls.{record_in, bits_refusals_in, write_refusals_in}
 use Rattle.modes.specs.Modes.{unknown, rate_at, with_mode}
 use Rattle.modes.specs.Shown.{unshown}
 use Rattle.polarity.specs.declared.types.Found.{Found}
-use Rattle.polarity.specs.Word.{sync_word, info_in, miscorrected, found_in, word_of}
+use Rattle.polarity.specs.Word.{reading, sync_word, info_in, miscorrected, found_in, word_of}
 
 -- reading: 1 not exactly 80 elements; 2 a mode that is unknown; 3 an element above 1; 4 another sync word; 5 "only if its zeros are odd and its polarity
 -- bit is 1"; then the record's

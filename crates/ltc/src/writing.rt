@@ -41,24 +41,17 @@ pub fn write(mode: u8, r: Record, make: Found, start: usize, run: &mut [u8]) -> 
 {
     let flags = r.flags;
     let mark = flags.mark;
-    let Ok(rate) = modes::rate_of(mode) else {
-        return Err(Refusal::UnknownMode);
-    };
-    let packed = modes::picture_to_bits(mode, Shows::First, r);
-    match packed {
-        Err(number) => Err(number),
-        Ok(clear) => {
-            // 11 as well: a second picture was refused by it above, and a mark is here
-            if rates::is_yes(mark) {
-                return Err(Refusal::MarkSet);
-            }
-            if runs::lacks_room(80, start, run.len()) {
-                return Err(Refusal::NoRoom);
-            }
-            let info = made(rate, make, clear);
-            let end = start + 80;
-            store(info, &mut run[start..end]);
-            Ok(())
-        }
+    let rate = modes::rate_of(mode)?;
+    let clear = modes::picture_to_bits(mode, Shows::First, r)?;
+    // 11 as well: a second picture was refused by it above, and a mark is here
+    if rates::is_yes(mark) {
+        return Err(Refusal::MarkSet);
     }
+    if runs::lacks_room(80, start, run.len()) {
+        return Err(Refusal::NoRoom);
+    }
+    let info = made(rate, make, clear);
+    let end = start + 80;
+    store(info, &mut run[start..end]);
+    Ok(())
 }

@@ -1,6 +1,7 @@
 -- "an answer has a code: 0 done or nothing, a refusal's own number, 100 accepted; one convention for all calls", and what stands beside the code: zeros on a refusal, and
 -- where a reader answers nothing.
 -- Assumes nothing.
+use Rattle.polarity.specs.Word.{reading}
 use Rattle.clock.specs.declared.types.DayFrame.{DayFrame}
 use Rattle.refusals.specs.declared.types.Refusal.{Refusal}
 use Rattle.pictures.specs.declared.types.PictureInSecond.{PictureInSecond}

@@ -13,7 +13,7 @@ use Rattle.record.specs.Record.{marked}
 use Rattle.modes.specs.Calls.{record_in, bits_refusals_in, unpacked_in}
 use Rattle.modes.specs.Modes.{rate_at, with_mode}
 use Rattle.polarity.specs.declared.types.Found.{Found}
-use Rattle.polarity.specs.Word.{word_with, miscorrected, found_in}
+use Rattle.polarity.specs.Word.{reading, word_with, miscorrected, found_in}
 use Rattle.polarity.specs.Heard.{heard_of}
 
 -- what the record says, the mark taken off, with what was found

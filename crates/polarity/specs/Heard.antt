@@ -3,13 +3,13 @@
 use Rattle.refusals.specs.declared.types.Refusal.TheVariants.{WrongCheck}
 use Rattle.polarity.specs.declared.types.Word.{Word}
 use Rattle.refusals.specs.declared.types.Refusal.{Refusal}
-use Rattle.std.specs.Prelude.{ℕ, List, ◌∷◌, Err, Result}
+use Rattle.std.specs.Prelude.{ℕ, List, ◌∷◌, Err, Result, Ok}
 use Rattle.refusals.specs.Answer.{Cause, ◌when◌, answer}
 use Rattle.rates.specs.declared.types.Flag.TheVariants.{No}
 use Rattle.record.specs.Record.{marked}
 use Rattle.modes.specs.Modes.{rate_at, with_mode}
 use Rattle.modes.specs.Calls.{record_in, bits_refusals_in}
-use Rattle.polarity.specs.Word.{word_with, miscorrected, found_in}
+use Rattle.polarity.specs.Word.{reading, word_with, miscorrected, found_in}
 
 -- 2 a mode that is unknown; 5 "only if its zeros are odd and its polarity bit is 1"; then the record's
 abbrev pub heard_refusals : ℕ → ℕ → List Cause

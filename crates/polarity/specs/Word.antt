@@ -12,7 +12,12 @@ use Rattle.record.specs.declared.types.Record.{Record}
 use Rattle.record.specs.Record.{marked}
 use Rattle.modes.specs.Calls.{information_in}
 use Rattle.polarity.specs.declared.types.Found.{Found}
+use Rattle.polarity.specs.declared.types.Word.{Word}
 use Rattle.polarity.specs.declared.types.Found.TheVariants.{Corrected, Uncorrected}
+
+-- what a word says: its record, and what was found
+abbrev pub reading : Record → Found → Word
+reading r found = record { «record» = r; found = found }
 
 unfoldable pub sync_word : List ℕ
 sync_word = 0 ∷ 0 ∷ 1 ∷ 1 ∷ 1 ∷ 1 ∷ 1 ∷ 1 ∷ 1 ∷ 1 ∷ 1 ∷ 1 ∷ 1 ∷ 1 ∷ 0 ∷ 1 ∷ []

@@ -10,15 +10,13 @@ use refusals::Refusal;
 pub fn read_info(mode: u8, info: u64) -> Result<Word, Refusal>
     ensures { result ≡ heard_of mode info }
 {
-    let Ok(rate) = modes::rate_of(mode) else {
-        return Err(Refusal::UnknownMode);
-    };
+    let rate = modes::rate_of(mode)?;
     if is_miscorrected(rate, info) {
         return Err(Refusal::WrongCheck);
     }
-    let held = modes::from_bits(mode, info);
-    match held {
-        Err(number) => Err(number),
-        Ok(r) => Ok(unmarked(r), found_in(info)),
-    }
+    let held = modes::from_bits(mode, info)?;
+    Ok(Word {
+        record: unmarked(held),
+        found: found_in(info),
+    })
 }

@@ -7,9 +7,9 @@ pub enum Found {
     Uncorrected,
 }
 
-// What a linear word is read as: its record and what was found, or the number that it is refused with.
+// What a linear word says: its record, and what was found.
 #[derive(Clone, Copy)]
-pub enum Word {
-    Holds(Record, Found),
-    Refused(u8),
+pub struct Word {
+    pub record: Record,
+    pub found: Found,
 }

@@ -40,7 +40,7 @@ use Rattle.modes.proofs.ByRate.{fits_of}
 use Rattle.trips.proofs.ByMode.{one_to_one}
 use Rattle.polarity.specs.declared.types.Found.{Found}
 use Rattle.polarity.specs.declared.types.Found.TheVariants.{Corrected}
-use Rattle.polarity.specs.Word.{sync_word, word_with, info_in, odd_zeros, polarity_bit, miscorrected, found_in, made, word_of}
+use Rattle.polarity.specs.Word.{reading, sync_word, word_with, info_in, odd_zeros, polarity_bit, miscorrected, found_in, made, word_of}
 use Rattle.polarity.proofs.Zeros.{info_of_word}
 use Rattle.ltc.specs.Calls.{read_refusals, read_of, written_rows, written_of, run_of}
 use Rattle.polarity.proofs.Heard.{with_found, heard_is}

@@ -21,7 +21,7 @@ module _ (mode start : ℕ) (r : Record) (run : List ℕ) (packed : Result ℕ R
 
   pub no_record : (n : Refusal) → packed ≡ Err n → Outcome (Err n) run
   unfolding written_of
-  no_record n e = (uncarried_as mode r ByMark Err _ n (sym asked ∙ e), uncarried_as mode r ByMark (λ (k : ℕ). run) _ n (sym asked ∙ e))
+  no_record n e = (uncarried_as mode r ByMark Err _ n (sym asked ∙ e), uncarried_as mode r ByMark (λ (_ : Refusal). run) _ n (sym asked ∙ e))
 
   -- the line was placed, or there was no room for it: what came back is what the write answers
   pub placed : (info : ℕ) → packed ≡ Ok info → (answered : Result Unit Refusal) (left : List ℕ)
@@ -34,5 +34,5 @@ module _ (mode start : ℕ) (r : Record) (run : List ℕ) (packed : Result ℕ R
         told.0 ∙ sym (otherwise_accepted Err (written_by (room_refusals 90 start run)) before made.0),
         told.1
             ∙ rw (← made.1)
-            (sym (otherwise_accepted (λ (k : ℕ). run) (run_after (room_refusals 90 start run) start (line_of mode r) run) before made.0)),
+            (sym (otherwise_accepted (λ (_ : Refusal). run) (run_after (room_refusals 90 start run) start (line_of mode r) run) before made.0)),
       )

@@ -26,9 +26,6 @@ fn information(line: &[u8]) -> u64
 pub fn read(mode: u8, line: &[u8]) -> Result<Record, Refusal>
     ensures { result ≡ read_of mode line.now }
 {
-    let found = interval::judge(mode, line);
-    match found {
-        Err(number) => Err(number),
-        Ok(()) => modes::picture_from_bits(mode, Shows::ByMark, information(line)),
-    }
+    interval::judge(mode, line)?;
+    modes::picture_from_bits(mode, Shows::ByMark, information(line))
 }

@@ -9,9 +9,6 @@ use refusals::Refusal;
 pub fn write(mode: u8, r: Record, start: usize, run: &mut [u8]) -> Result<(), Refusal>
     ensures { (result ≡ written_of mode r start run.old) × (run.new ≡ run_of mode r start run.old) }
 {
-    let packed = modes::picture_to_bits(mode, Shows::ByMark, r);
-    match packed {
-        Err(number) => Err(number),
-        Ok(info) => interval::place(info, start, run),
-    }
+    let info = modes::picture_to_bits(mode, Shows::ByMark, r)?;
+    interval::place(info, start, run)
 }

@@ -2,9 +2,10 @@
 -- Assumes nothing.
 use mathlib.Core.Path.{◌≡◌}
 use Prim.Native.Nat.{ℕ}
+use Rattle.polarity.specs.Word.{reading}
 use Rattle.polarity.specs.declared.types.Word.{Word}
 use Rattle.refusals.specs.declared.types.Refusal.{Refusal}
-use Rattle.std.specs.Prelude.{Err, Result}
+use Rattle.std.specs.Prelude.{Err, Result, Ok}
 use Rattle.record.specs.declared.types.Record.{Record}
 use Rattle.plain.specs.declared.types.PlainRecord.{PlainRecord}
 use Rattle.plain.specs.Shown.{record_shown}

@@ -4,6 +4,7 @@ use mathlib.Core.Path.{◌≡◌, ap, ap₂, sym, ◌∙◌}
 use mathlib.Core.Bool.{Bool, true, false}
 use Prim.Native.Nat.{ℕ}
 use Rattle.refusals.specs.declared.types.Refusal.{Refusal}
+use Rattle.refusals.proofs.Results.{passed_on}
 use Rattle.std.specs.Prelude.{Err, Ok, Result}
 use Rattle.refusals.specs.declared.types.Refusal.TheVariants.{UnknownMode, WrongCheck}
 use Rattle.rates.specs.declared.types.Flag.TheVariants.{No}
@@ -14,15 +15,15 @@ use Rattle.modes.specs.Modes.{unknown, rate_at, rated_of}
 use Rattle.modes.specs.Calls.{unpacked_in}
 use Rattle.modes.proofs.ByRate.{rate_told, rate_refused}
 use Rattle.polarity.specs.declared.types.Found.{Found}
-use Rattle.polarity.specs.Word.{word_with, miscorrected, found_in}
+use Rattle.polarity.specs.Word.{reading, word_with, miscorrected, found_in}
 use Rattle.polarity.specs.Heard.{heard_of}
 use Rattle.polarity.proofs.Heard.{with_found, heard_is}
 use Rattle.polarity.proofs.hearing.read_info.Goals as goal
 
 module _ (mode info : ℕ) (rated : Result Rate Refusal) (named : rated ≡ rated_of mode) where
-  no_mode : (n : Refusal) → rated ≡ Err n → Err UnknownMode ≡ heard_of mode info
+  no_mode : (n : Refusal) → rated ≡ Err n → Err n ≡ heard_of mode info
   unfolding heard_of
-  no_mode n e = rw (rate_refused mode rated named n e).0
+  no_mode n e = let is = rate_refused mode rated named n e in rw (is.0, is.1)
 
   module _ (rate : Rate) (is : rated ≡ Ok rate) where
     own : (unknown mode ≡ false) × (rate_at mode ≡ rate)
@@ -45,16 +46,16 @@ module _ (mode info : ℕ) (rated : Result Rate Refusal) (named : rated ≡ rate
 
         accepted :
             (r s : Record) (found : Found) → held ≡ Ok r → s ≡ marked No r → found ≡ found_in (word_with info) → Ok (reading s found) ≡ heard_of mode info
-        accepted r s found e taken_off looked = ap₂ Ok (reading taken_off looked) ∙ (ap (with_found (found_in (word_with info))) (sym e) ∙ heard)
+        accepted r s found e taken_off looked = ap₂ (λ (q : Record) (f : Found). Ok (reading q f)) taken_off looked ∙ (ap (with_found (found_in (word_with info))) (sym e) ∙ heard)
 
-pub returns-in_default : goal.returns-in_default
-returns-in_default c = no_mode _ _ _ c.rate_of.ensures _ c.in_default.is
+pub returns-in_err-rate : goal.returns-in_err-rate
+returns-in_err-rate c = passed_on c.from_residual.ensures.1 (search (no_mode, c.in_err-rate.was))
 
 pub returns-then-is_miscorrected : goal.returns-then-is_miscorrected
-returns-then-is_miscorrected c = search by_5
+returns-then-is_miscorrected c = search (by_5, c.in_ok-rate.was)
 
-pub returns-in-Refused : goal.returns-in-Refused
-returns-in-Refused c = search refused
+pub returns-in_err-held : goal.returns-in_err-held
+returns-in_err-held c = passed_on c.from_residual-in_err-held.ensures.1 (search (refused, c.in_ok-rate.was, c.in_err-held.was))
 
-pub returns-in-Holds : goal.returns-in-Holds
-returns-in-Holds c = search accepted
+pub returns : goal.returns
+returns c = search (accepted, c.in_ok-rate.was, c.in_ok-held.was)
