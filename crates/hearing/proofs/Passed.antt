@@ -4,6 +4,7 @@ use Prim.Native.Nat.{ℕ}
 use mathlib.Core.Path.{◌≡◌, refl, ◌∙◌}
 use mathlib.Core.Bool.{true}
 use mathlib.Core.List.{List}
+use Rattle.refusals.specs.declared.types.Refusal.{Refusal}
 use Rattle.std.specs.Prelude.{Err, Ok}
 use Rattle.refusals.specs.Answer.{test_of}
 use Rattle.refusals.proofs.Answered.{kept, carried}
@@ -19,7 +20,7 @@ use Rattle.hearing.specs.declared.types.Heard.TheVariants.{Nothing}
 use Rattle.hearing.specs.Window.{told_backward}
 
 -- whichever number it would be refused by
-pub passed_over : (ways : Ways) (mode n : ℕ) (word : List ℕ) → test_of n (read_refusals mode word) ≡ true → told_backward ways (read_of mode word) ≡ Nothing
+pub passed_over : (ways : Ways) (mode : ℕ) (n : Refusal) (word : List ℕ) → test_of n (read_refusals mode word) ≡ true → told_backward ways (read_of mode word) ≡ Nothing
 unfolding read_of
 passed_over ForwardOnly mode n word refused = refl
 passed_over Both mode n word refused =

@@ -24,7 +24,7 @@ reporting r found way = record { «record» = r; found = found; way = way }
 
 -- "The answer holds the whole record inside the accepted case", and beside it what was found and the way
 abbrev pub told : Result Word Refusal → Heard
-told (Ok (reading r found)) = Accepted (reporting r found Forward)
+told (Ok word) = Accepted (reporting word.«record» word.found Forward)
 told (Err n) = Refused n
 
 -- what is heard forward in the bits that are held
@@ -34,7 +34,7 @@ forward_in mode bits = cond (eqb (length bits) 80 && same (drop 64 bits) sync_wo
 -- "With reverse allowed", and else nothing; and what is not accepted "is passed over"
 abbrev pub told_backward : Ways → Result Word Refusal → Heard
 told_backward ForwardOnly word = Nothing
-told_backward Both (Ok (reading r found)) = Accepted (reporting r found Backward)
+told_backward Both (Ok word) = Accepted (reporting word.«record» word.found Backward)
 told_backward Both (Err n) = Nothing
 
 -- what is heard backward: the bits that are held, turned round. Fewer than 80 are no word

@@ -1,5 +1,6 @@
 use polarity::Found;
 use record::Record;
+use refusals::Refusal;
 
 // Which way a word runs: as it was written, or from its last bit to its first.
 #[derive(Clone, Copy)]
@@ -20,5 +21,5 @@ pub struct Report {
 pub enum Heard {
     Nothing,
     Accepted(Report),
-    Refused(u8),
+    Refused(Refusal),
 }

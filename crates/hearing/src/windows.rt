@@ -8,8 +8,7 @@ ghost use Rattle.hearing.specs.Looks.{synced};
 
 use crate::turning::turned;
 use crate::types::{Heard, Report, Way};
-use polarity::{Found, Word};
-use record::Record;
+use polarity::Word;
 use register::{Reader, Ways};
 
 // Whether the sync word stands in a register as it does in a word: at the top or, where reverse is allowed, turned round at the bottom. Where it does
@@ -27,9 +26,11 @@ pub fn is_synced(reader: Reader) -> bool
     }
 }
 
-fn reported(record: Record, found: Found, way: Way) -> Heard
-    ensures { result ≡ Accepted (reporting «record» found way) }
+fn reported(word: Word, way: Way) -> Heard
+    ensures { result ≡ Accepted (reporting word.«record» word.found way) }
 {
+    let record = word.record;
+    let found = word.found;
     Heard::Accepted(Report { record, found, way })
 }
 
@@ -49,7 +50,7 @@ fn heard_turned(reader: Reader) -> Heard
     let info = turned(reader.info / 0x1_0000 + 0x1_0000_0000_0000 * newest);
     let word = polarity::read_info(reader.mode, info);
     match word {
-        Ok(record, found) => reported(record, found, Way::Backward),
+        Ok(says) => reported(says, Way::Backward),
         Err(_) => Heard::Nothing,
     }
 }
@@ -76,7 +77,7 @@ pub fn heard(reader: Reader) -> Heard
     }
     let word = polarity::read_info(reader.mode, reader.info);
     match word {
-        Ok(record, found) => reported(record, found, Way::Forward),
-        Err(number) => Heard::Refused(number),
+        Ok(says) => reported(says, Way::Forward),
+        Err(refusal) => Heard::Refused(refusal),
     }
 }

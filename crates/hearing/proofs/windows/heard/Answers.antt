@@ -39,9 +39,9 @@ module _ (r : Reader) where
         ap (λ (heard : Heard). or_else heard (backward_in r.mode r.ways (held_bits r))) (ap told read ∙ sym (full_hears r low seen h))
 
     accepted :
-        (held : Record) (found : Found) → word ≡ Ok (reading held found) → (heard : Heard) → heard ≡ Accepted (reporting held found Forward)
+        (says : Word) → word ≡ Ok says → (heard : Heard) → heard ≡ Accepted (reporting says.«record» says.found Forward)
         → heard ≡ heard_in r.mode r.ways (held_bits r)
-    accepted held found e heard is = is ∙ ap (λ (w : Result Word Refusal). or_else (told w) (backward_in r.mode r.ways (held_bits r))) (sym e) ∙ heard_is
+    accepted says e heard is = is ∙ ap (λ (w : Result Word Refusal). or_else (told w) (backward_in r.mode r.ways (held_bits r))) (sym e) ∙ heard_is
 
     refused : (n : Refusal) → word ≡ Err n → Refused n ≡ heard_in r.mode r.ways (held_bits r)
     refused n e = ap (λ (w : Result Word Refusal). or_else (told w) (backward_in r.mode r.ways (held_bits r))) (sym e) ∙ heard_is
@@ -52,8 +52,8 @@ returns-then-reader-ne49148 c = search (no_sync, rules)
 pub returns-then-reader-lt80 : goal.returns-then-reader-lt80
 returns-then-reader-lt80 c = search too_few
 
-pub returns-in-Holds : goal.returns-in-Holds
-returns-in-Holds c = search (accepted, rules)
+pub returns-in-Ok : goal.returns-in-Ok
+returns-in-Ok c = search (accepted, rules)
 
-pub returns-in-Refused : goal.returns-in-Refused
-returns-in-Refused c = search (refused, rules)
+pub returns-in-Err : goal.returns-in-Err
+returns-in-Err c = search (refused, rules)

@@ -38,9 +38,9 @@ module _ (r : Reader) where
       heard_is = ap (told_backward Both) read ∙ sym (full_turned r low high info turns seen h Both)
 
       accepted :
-          (held : Record) (found : Found) → word ≡ Ok (reading held found) → (heard : Heard) → heard ≡ Accepted (reporting held found Backward)
+          (says : Word) → word ≡ Ok says → (heard : Heard) → heard ≡ Accepted (reporting says.«record» says.found Backward)
           → heard ≡ backward_in r.mode Both (held_bits r)
-      accepted held found e heard told = told ∙ ap (told_backward Both) (sym e) ∙ heard_is
+      accepted says e heard told = told ∙ ap (told_backward Both) (sym e) ∙ heard_is
 
       passed_over : (n : Refusal) → word ≡ Err n → Nothing ≡ backward_in r.mode Both (held_bits r)
       passed_over n e = ap (told_backward Both) (sym e) ∙ heard_is
@@ -51,8 +51,8 @@ returns-then-oldest-ne16381 c = search (no_sync, rules)
 pub returns-then-held-lt80 : goal.returns-then-held-lt80
 returns-then-held-lt80 c = search too_few
 
-pub returns-in-Holds : goal.returns-in-Holds
-returns-in-Holds c = search (accepted, rules)
+pub returns-in-Ok : goal.returns-in-Ok
+returns-in-Ok c = search (accepted, rules)
 
-pub returns-in-Refused : goal.returns-in-Refused
-returns-in-Refused c = search (passed_over, rules)
+pub returns-in-Err : goal.returns-in-Err
+returns-in-Err c = search (passed_over, rules)
