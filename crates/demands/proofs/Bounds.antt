@@ -46,36 +46,6 @@ use Rattle.vitc.proofs.Rows as interval
 use Rattle.atc.specs.declared.types.Interface.{Interface}
 use Rattle.atc.specs.Calls as atc
 use Rattle.atc.proofs.Answers as ancillary
-use Rattle.trips.proofs.Nineteen.{of_packet, of_written}
-
--- the number that each kind of answer is refused with, and 0 where it is not
-abbrev pub of_numbered : Result DayFrame Refusal → ℕ
-of_numbered (Ok n) = 0
-of_numbered (Err n) = n
-
-abbrev pub of_in_second : Result PictureInSecond Refusal → ℕ
-of_in_second (Ok n) = 0
-of_in_second (Err n) = n
-
-abbrev pub of_pictured : Result Picture Refusal → ℕ
-of_pictured (Ok p) = 0
-of_pictured (Err n) = n
-
-abbrev pub of_span : Result ℤ Refusal → ℕ
-of_span (Ok z) = 0
-of_span (Err n) = n
-
-abbrev pub of_word : Result Word Refusal → ℕ
-of_word (Ok (reading r found)) = 0
-of_word (Err n) = n
-
-abbrev pub of_packed : Result ℕ Refusal → ℕ
-of_packed (Ok n) = 0
-of_packed (Err n) = n
-
-abbrev pub of_unpacked : Result Record Refusal → ℕ
-of_unpacked (Ok r) = 0
-of_unpacked (Err n) = n
 
 -- the tests, as numbers
 unknown_from : (mode : ℕ) → (unknown mode ≡ true) ↔ (6 ≤ mode)
@@ -158,34 +128,34 @@ module _ (mode : ℕ) (r : Record) (start : ℕ) (run : List ℕ) where
   pub linear_written_refused_by_2 : (ltc.written_of mode r start run ≡ Err UnknownMode) ↔ (6 ≤ mode)
   unfolding ltc.written_of ltc.written_rows
   linear_written_refused_by_2 =
-      first_of (given_exactly Err (Ok tt) of_written (λ k. refl) refl UnknownMode (omega arith) (ltc.written_rows mode r start run) (linear.written_rows_in_order mode r start run)) (unknown_from mode)
+      first_of (given_exactly _ UnknownMode (ltc.written_rows mode r start run) (linear.written_rows_in_order mode r start run)) (unknown_from mode)
 
   pub interval_written_refused_by_2 : (vitc.written_of mode r start run ≡ Err UnknownMode) ↔ (6 ≤ mode)
   unfolding vitc.written_of
   interval_written_refused_by_2 =
-      first_of (given_exactly Err (Ok tt) of_written (λ k. refl) refl UnknownMode (omega arith) (vitc.written_rows mode r start run) (interval.written_rows_in_order mode r start run)) (unknown_from mode)
+      first_of (given_exactly _ UnknownMode (vitc.written_rows mode r start run) (interval.written_rows_in_order mode r start run)) (unknown_from mode)
 
   pub ancillary_written_refused_by_2 :
       (interface : Interface) (type second : ℕ) → (atc.written_of mode interface r type second start run ≡ Err UnknownMode) ↔ (11 ≤ mode)
   unfolding atc.written_of
   ancillary_written_refused_by_2 interface type second =
-      first_of (given_exactly Err (Ok tt) of_written (λ k. refl) refl UnknownMode (omega arith) (atc.written_rows mode interface r type second start run) (ancillary.written_rows_in_order mode interface r type second start run)) (uncounted_from mode)
+      first_of (given_exactly _ UnknownMode (atc.written_rows mode interface r type second start run) (ancillary.written_rows_in_order mode interface r type second start run)) (uncounted_from mode)
 
 module _ (mode : ℕ) (elements : List ℕ) where
   pub linear_refused_by_2 : (ltc.read_of mode elements ≡ Err UnknownMode) ↔ ((length elements ≡ 80) × (6 ≤ mode))
   unfolding ltc.read_of
   linear_refused_by_2 =
-      after_length elements 80 (given_exactly Err _ of_word (λ k. refl) refl UnknownMode (omega arith) (ltc.read_refusals mode elements) (linear.read_rows_in_order mode elements)) (unknown_from mode)
+      after_length elements 80 (given_exactly _ UnknownMode (ltc.read_refusals mode elements) (linear.read_rows_in_order mode elements)) (unknown_from mode)
 
   pub interval_refused_by_2 : (vitc.read_of mode elements ≡ Err UnknownMode) ↔ ((length elements ≡ 90) × (6 ≤ mode))
   unfolding vitc.read_of
   interval_refused_by_2 =
-      after_length elements 90 (given_exactly Err _ of_unpacked (λ k. refl) refl UnknownMode (omega arith) (vitc.read_refusals mode elements) (interval.read_rows_in_order mode elements)) (unknown_from mode)
+      after_length elements 90 (given_exactly _ UnknownMode (vitc.read_refusals mode elements) (interval.read_rows_in_order mode elements)) (unknown_from mode)
 
   pub ancillary_refused_by_2 : (interface : Interface) → (atc.read_of mode interface elements ≡ Err UnknownMode) ↔ ((length elements ≡ 23) × (11 ≤ mode))
   unfolding atc.read_of
   ancillary_refused_by_2 interface =
-      after_length elements 23 (given_exactly Err _ of_packet (λ k. refl) refl UnknownMode (omega arith) (atc.read_refusals mode interface elements) (ancillary.read_rows_in_order mode interface elements)) (uncounted_from mode)
+      after_length elements 23 (given_exactly _ UnknownMode (atc.read_refusals mode interface elements) (ancillary.read_rows_in_order mode interface elements)) (uncounted_from mode)
 
 -- the calls of the record on the lines, and those of high frame rates, which are of modes 6 to 10 alone
 module _ (mode : ℕ) where
@@ -213,13 +183,13 @@ module _ (mode : ℕ) where
   pub super_frame_refused_by_2 : (info : ℕ) → (superframes.unpacked_in mode info ≡ Err UnknownMode) ↔ ((mode ≤ 5) ⊎ (11 ≤ mode))
   unfolding superframes.unpacked_in
   super_frame_refused_by_2 info =
-      first_of (given_exactly Err _ of_unpacked (λ k. refl) refl UnknownMode (omega arith)
+      first_of (given_exactly _ UnknownMode
       (superframes.with_high_rate mode (superframes.bits_refusals (rate_at mode) (pictures_at mode) info)) (high.bits_rows_in_order mode info)) not_high
 
   pub super_frame_made_refused_by_2 : (r : Record) → (superframes.packed_in mode r ≡ Err UnknownMode) ↔ ((mode ≤ 5) ⊎ (11 ≤ mode))
   unfolding superframes.packed_in
   super_frame_made_refused_by_2 r =
-      first_of (given_exactly Err _ of_packed (λ k. refl) refl UnknownMode (omega arith)
+      first_of (given_exactly _ UnknownMode
       (superframes.with_high_rate mode (superframes.write_refusals (rate_at mode) (pictures_at mode) r)) (high.write_rows_in_order mode r)) not_high
 
 -- a reader in such a mode answers 2 to every step and block, and stays as it was: "it is LTC"

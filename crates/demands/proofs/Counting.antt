@@ -35,7 +35,6 @@ use Rattle.modes.proofs.Rows as counts
 use Rattle.demands.specs.Refused.{Drops, OutsideClock, NoPlace, Skipped, Nine, DropUnused, PlaceUnused}
 use Rattle.demands.proofs.Accepted.{counted_exactly}
 use Rattle.demands.proofs.Numbers.{with_front}
-use Rattle.demands.proofs.Bounds.{of_numbered, of_pictured, of_span}
 use Rattle.demands.proofs.Tests.{either_exactly, both_exactly, yes_exactly, skipped_exactly, drops_exactly, clock_exactly, nine_exactly, outside_exactly, unused_exactly, drop_unused_exactly}
 use Rattle.demands.proofs.Refused.{eighth, ninth, tenth}
 
@@ -71,13 +70,13 @@ module _ (mode : ℕ) (drop : Flag) where
     number_refused_by_8 =
         rw (counts.number_rows mode drop p)
         (eighth (test_of OutsideTheClock rows) (test_of SkippedAddress rows) (test_of UnusedBitSet rows) eight_is nine_is ten_is
-        (with_front (given_exactly Err (Ok number) of_numbered (λ k. refl) refl OutsideTheClock (omega arith) rows (counts.picture_rows_in_order mode drop p)) counted))
+        (with_front (given_exactly _ OutsideTheClock rows (counts.picture_rows_in_order mode drop p)) counted))
 
     pub number_refused_by_9 : (number_in mode drop p ≡ Err SkippedAddress) ↔ ((mode ≤ 10) × (Eight → ⊥) × Nine mode drop p.address)
     number_refused_by_9 =
         rw (counts.number_rows mode drop p)
         (ninth (test_of OutsideTheClock rows) (test_of SkippedAddress rows) (test_of UnusedBitSet rows) eight_is nine_is ten_is
-        (with_front (given_exactly Err (Ok number) of_numbered (λ k. refl) refl SkippedAddress (omega arith) rows (counts.picture_rows_in_order mode drop p)) (
+        (with_front (given_exactly _ SkippedAddress rows (counts.picture_rows_in_order mode drop p)) (
           λ clear. ((counted_exactly mode).0 clear.0, clear.1.0),
           λ all. ((counted_exactly mode).1 all.0, (all.1, tt)),
         )))
@@ -86,7 +85,7 @@ module _ (mode : ℕ) (drop : Flag) where
     number_refused_by_10 =
         rw (counts.number_rows mode drop p)
         (tenth (test_of OutsideTheClock rows) (test_of SkippedAddress rows) (test_of UnusedBitSet rows) eight_is nine_is ten_is
-        (with_front (given_exactly Err (Ok number) of_numbered (λ k. refl) refl UnusedBitSet (omega arith) rows (counts.picture_rows_in_order mode drop p)) (
+        (with_front (given_exactly _ UnusedBitSet rows (counts.picture_rows_in_order mode drop p)) (
           λ clear. (((counted_exactly mode).0 clear.0, clear.1.0), clear.1.1.0),
           λ all. ((counted_exactly mode).1 all.0.0, (all.0.1, (all.1, tt))),
         )))
@@ -168,13 +167,13 @@ module _ (mode : ℕ) (drop : Flag) where
     distance_refused_by_8 =
         rw (counts.span_rows mode drop from to)
         (eighth (test_of OutsideTheClock two_rows) (test_of SkippedAddress two_rows) (test_of UnusedBitSet two_rows) eight_two nine_two ten_two
-        (with_front (given_exactly Err (Ok apart) of_span (λ k. refl) refl OutsideTheClock (omega arith) two_rows (counts.two_rows_in_order mode drop from to)) counted))
+        (with_front (given_exactly _ OutsideTheClock two_rows (counts.two_rows_in_order mode drop from to)) counted))
 
     pub distance_refused_by_9 : (span_in mode drop from to ≡ Err SkippedAddress) ↔ ((mode ≤ 10) × (EightOfTwo → ⊥) × NineOfTwo)
     distance_refused_by_9 =
         rw (counts.span_rows mode drop from to)
         (ninth (test_of OutsideTheClock two_rows) (test_of SkippedAddress two_rows) (test_of UnusedBitSet two_rows) eight_two nine_two ten_two
-        (with_front (given_exactly Err (Ok apart) of_span (λ k. refl) refl SkippedAddress (omega arith) two_rows (counts.two_rows_in_order mode drop from to)) (
+        (with_front (given_exactly _ SkippedAddress two_rows (counts.two_rows_in_order mode drop from to)) (
           λ clear. ((counted_exactly mode).0 clear.0, clear.1.0),
           λ all. ((counted_exactly mode).1 all.0, (all.1, tt)),
         )))
@@ -183,7 +182,7 @@ module _ (mode : ℕ) (drop : Flag) where
     distance_refused_by_10 =
         rw (counts.span_rows mode drop from to)
         (tenth (test_of OutsideTheClock two_rows) (test_of SkippedAddress two_rows) (test_of UnusedBitSet two_rows) eight_two nine_two ten_two
-        (with_front (given_exactly Err (Ok apart) of_span (λ k. refl) refl UnusedBitSet (omega arith) two_rows (counts.two_rows_in_order mode drop from to)) (
+        (with_front (given_exactly _ UnusedBitSet two_rows (counts.two_rows_in_order mode drop from to)) (
           λ clear. (((counted_exactly mode).0 clear.0, clear.1.0), clear.1.1.0),
           λ all. ((counted_exactly mode).1 all.0.0, (all.0.1, (all.1, tt))),
         )))
@@ -200,7 +199,7 @@ module _ (mode : ℕ) (drop : Flag) where
     picture_refused_by_10 =
         rw (counts.picture_rows mode drop n)
         (eighth (test_of UnusedBitSet number_rows) false false (λ few. drop_unused_exactly mode few drop) (λ few. (λ e. e, λ e. e)) (λ few. (λ e. e, λ e. e))
-        (with_front (given_exactly Err (Ok numbered) of_pictured (λ k. refl) refl UnusedBitSet (omega arith) number_rows (counts.number_rows_in_order mode drop n.0)) counted))
+        (with_front (given_exactly _ UnusedBitSet number_rows (counts.number_rows_in_order mode drop n.0)) counted))
 
     pub picture_refused_by_14 :
         (picture_in mode drop n ≡ Err NumberPastTheDay)
@@ -210,7 +209,7 @@ module _ (mode : ℕ) (drop : Flag) where
         rw (counts.picture_rows mode drop n)
         (ninth (test_of UnusedBitSet number_rows) (test_of NumberPastTheDay number_rows) false (λ few. drop_unused_exactly mode few drop)
         (λ few. (leb-true day n.0, le-leb day n.0)) (λ few. (λ e. e, λ e. e))
-        (with_front (given_exactly Err (Ok numbered) of_pictured (λ k. refl) refl NumberPastTheDay (omega arith) number_rows (counts.number_rows_in_order mode drop n.0)) (
+        (with_front (given_exactly _ NumberPastTheDay number_rows (counts.number_rows_in_order mode drop n.0)) (
           λ clear. ((counted_exactly mode).0 clear.0, clear.1.0),
           λ all. ((counted_exactly mode).1 all.0, (all.1, tt)),
         )))

@@ -29,7 +29,6 @@ use Rattle.modes.specs.Modes.{with_counting}
 use Rattle.atc.specs.Records.{carried_refusals}
 use Rattle.atc.specs.Calls.{read_refusals, read_of, written_rows, written_of}
 use Rattle.atc.proofs.Answers.{read_rows_in_order, written_rows_in_order}
-use Rattle.trips.proofs.Nineteen.{of_packet, of_written}
 use Rattle.demands.specs.Families.{PayloadType, opening}
 use Rattle.demands.specs.Form.{Form}
 use Rattle.demands.proofs.Accepted.{counted_exactly}
@@ -111,7 +110,7 @@ module _ (interface : Interface) (mode : ℕ) where
     pub ancillary_refused_by_1 : (read_of mode interface words ≡ Err WrongLength) ↔ (length words ≡ 23 → ⊥)
     unfolding read_of
     ancillary_refused_by_1 =
-        let exactly = given_exactly Err _ of_packet (λ k. refl) refl WrongLength (omega arith) rows (read_rows_in_order mode interface words) in
+        let exactly = given_exactly _ WrongLength rows (read_rows_in_order mode interface words) in
         let size : (not (eqb (length words) 23) ≡ false) ↔ (length words ≡ 23) =
         (λ e. eqb-true (length words) 23 (not-false _ e), λ e. rw (eq-eqb (length words) 23 e)) in
         let test = unless (not (eqb (length words) 23)) size in
@@ -121,14 +120,14 @@ module _ (interface : Interface) (mode : ℕ) where
     pub ancillary_refused_by_3 : (read_of mode interface words ≡ Err ElementTooHigh) ↔ (Sized × (some_above 1023 words ≡ true))
     unfolding read_of
     ancillary_refused_by_3 =
-        with_front (given_exactly Err _ of_packet (λ k. refl) refl ElementTooHigh (omega arith) rows (read_rows_in_order mode interface words)) sized
+        with_front (given_exactly _ ElementTooHigh rows (read_rows_in_order mode interface words)) sized
 
     -- 4: "one of the first six packet words is wrong", by the family. Shut out: the families' fifth words exchanged, a fifth word unread.
     pub ancillary_refused_by_4 : (read_of mode interface words ≡ Err WrongSync) ↔ (Sized × (some_above 1023 words ≡ false) × (take 6 words ≡ opening mode → ⊥))
     unfolding read_of
     ancillary_refused_by_4 =
         let before = rows_before WrongSync rows in
-        let exactly = given_exactly Err _ of_packet (λ k. refl) refl WrongSync (omega arith) rows (read_rows_in_order mode interface words) in
+        let exactly = given_exactly _ WrongSync rows (read_rows_in_order mode interface words) in
         let test : (few : mode ≤ 10) → (not (is_headed mode words) ≡ true) ↔ (take 6 words ≡ opening mode → ⊥) =
         λ few. unless (not (is_headed mode words)) (headed_exactly mode words few) in (
           λ e.
@@ -156,7 +155,7 @@ module _ (interface : Interface) (mode : ℕ) where
     unfolding read_of
     ancillary_refused_by_5 =
         let exactly =
-        with_front (given_exactly Err _ of_packet (λ k. refl) refl WrongCheck (omega arith) rows (read_rows_in_order mode interface words)) opened in
+        with_front (given_exactly _ WrongCheck rows (read_rows_in_order mode interface words)) opened in
         let test = unless (some_word wrong_word (data_in words) || not (eqb (get_or words 22 0) (checksum_of words))) (form_exactly_test words) in
         (λ e. (let is = exactly.0 e in (is.0, test.0 is.1)), λ all. exactly.1 (all.0, test.1 all.1))
 
@@ -167,7 +166,7 @@ module _ (interface : Interface) (mode : ℕ) where
     unfolding read_of
     ancillary_refused_by_6 =
         let before = rows_before LowBitsSet rows in
-        let exactly = given_exactly Err _ of_packet (λ k. refl) refl LowBitsSet (omega arith) rows (read_rows_in_order mode interface words) in (
+        let exactly = given_exactly _ LowBitsSet rows (read_rows_in_order mode interface words) in (
           λ e.
               (let is = exactly.0 e in
               (opened.0 (clear_before WrongCheck before is.0), (form_exactly_test words).0 (clear_at WrongCheck before is.0), is.1)),
@@ -179,7 +178,7 @@ module _ (interface : Interface) (mode : ℕ) where
     unfolding read_of
     ancillary_refused_by_7 =
         let exactly =
-        with_front (given_exactly Err _ of_packet (λ k. refl) refl UnknownType (omega arith) rows (read_rows_in_order mode interface words))
+        with_front (given_exactly _ UnknownType rows (read_rows_in_order mode interface words))
         (form_exactly mode words) in
         let test : (few : mode ≤ 10) → (is_unknown_type mode (type_in words) ≡ true) ↔ (PayloadType mode (type_in words) → ⊥) =
         λ few. unless (is_unknown_type mode (type_in words)) (type_exactly mode few (type_in words)) in (
@@ -197,7 +196,7 @@ module _ (interface : Interface) (mode : ℕ) where
         let type = c.payload_type in
         let rows = written_rows mode interface c.«record» type c.second start run in
         let exactly =
-        given_exactly Err (Ok tt) of_written (λ k. refl) refl UnknownType (omega arith) rows
+        given_exactly _ UnknownType rows
         (written_rows_in_order mode interface c.«record» type c.second start run) in (
           λ e. (let is = exactly.0 e in
               let few = (counted_exactly mode).0 is.0.0 in (few, (unless (is_unknown_type mode type) (type_exactly mode few type)).0 is.1)),
@@ -215,7 +214,7 @@ module _ (interface : Interface) (mode : ℕ) where
         let rows = written_rows mode interface r type c.second start run in
         let before = rows_before NoRoom rows in
         let exactly =
-        given_exactly Err (Ok tt) of_written (λ k. refl) refl NoRoom (omega arith) rows (written_rows_in_order mode interface r type c.second start run) in
+        given_exactly _ NoRoom rows (written_rows_in_order mode interface r type c.second start run) in
         let own = with_counting mode (carried_refusals mode type r) in
         let room : (lacks_room 23 start (length run) ≡ false) ↔ (start + 23 ≤ length run) = (has_room 23 start (length run), room_for 23 start (length run)) in (
           λ e.

@@ -21,7 +21,6 @@ use Rattle.packets.specs.Packet.{data_in, type_in, second_in}
 use Rattle.atc.specs.declared.types.Interface.{Interface}
 use Rattle.atc.specs.Calls.{read_refusals, read_of, written_rows, written_of}
 use Rattle.atc.proofs.Answers.{read_rows_in_order, written_rows_in_order}
-use Rattle.trips.proofs.Nineteen.{of_packet, of_written}
 use Rattle.demands.specs.Table4.{ClaimsImpossibleLine}
 use Rattle.demands.specs.Families.{PayloadType, NamesMode}
 use Rattle.demands.specs.Refused.{Eight, EightHeld, Nine, Ten, TenHeld}
@@ -83,7 +82,7 @@ module _ (interface : Interface) (mode : ℕ) where
     unfolding written_of
     ancillary_written_refused_by_8 =
         let exactly =
-        given_exactly Err (Ok tt) of_written (λ k. refl) refl OutsideTheClock (omega arith) rows (written_rows_in_order mode interface r type second start run) in
+        given_exactly _ OutsideTheClock rows (written_rows_in_order mode interface r type second start run) in
         eighth (test_of OutsideTheClock rows) (test_of SkippedAddress rows) (test_of UnusedBitSet rows)
         (λ before. eight_exactly mode before.0 r) (λ before. nine_exactly mode before.0 r.flags.drop r.address) (λ before. ten_exactly mode before.0 r)
         (with_front exactly front)
@@ -93,7 +92,7 @@ module _ (interface : Interface) (mode : ℕ) where
     unfolding written_of
     ancillary_written_refused_by_9 =
         let exactly =
-        given_exactly Err (Ok tt) of_written (λ k. refl) refl SkippedAddress (omega arith) rows (written_rows_in_order mode interface r type second start run) in
+        given_exactly _ SkippedAddress rows (written_rows_in_order mode interface r type second start run) in
         let up_to_lem = rows_before SkippedAddress rows in
         ninth (test_of OutsideTheClock rows) (test_of SkippedAddress rows) (test_of UnusedBitSet rows)
         (λ before. eight_exactly mode before.0 r) (λ before. nine_exactly mode before.0 r.flags.drop r.address) (λ before. ten_exactly mode before.0 r)
@@ -108,7 +107,7 @@ module _ (interface : Interface) (mode : ℕ) where
     unfolding written_of
     ancillary_written_refused_by_10 =
         let exactly =
-        given_exactly Err (Ok tt) of_written (λ k. refl) refl UnusedBitSet (omega arith) rows (written_rows_in_order mode interface r type second start run) in
+        given_exactly _ UnusedBitSet rows (written_rows_in_order mode interface r type second start run) in
         let up_to_lem = rows_before UnusedBitSet rows in
         tenth (test_of OutsideTheClock rows) (test_of SkippedAddress rows) (test_of UnusedBitSet rows)
         (λ before. eight_exactly mode before.0 r) (λ before. nine_exactly mode before.0 r.flags.drop r.address) (λ before. ten_exactly mode before.0 r)
@@ -143,7 +142,7 @@ module _ (interface : Interface) (mode : ℕ) where
     pub ancillary_refused_by_8 : (read_of mode interface words ≡ Err OutsideTheClock) ↔ (ReadBefore × EightHeld mode info)
     unfolding read_of record_of
     ancillary_refused_by_8 =
-        let exactly = given_exactly Err _ of_packet (λ k. refl) refl OutsideTheClock (omega arith) read_rows (read_rows_in_order mode interface words) in
+        let exactly = given_exactly _ OutsideTheClock read_rows (read_rows_in_order mode interface words) in
         eighth (test_of OutsideTheClock read_rows) (test_of SkippedAddress read_rows) (test_of UnusedBitSet read_rows)
         (λ before. eight_held_exactly mode (few_of before) info) (λ before. nine_exactly mode (few_of before) (flag_at 10 info) (address_held info))
         (λ before. ten_held_exactly mode (few_of before) info)
@@ -153,7 +152,7 @@ module _ (interface : Interface) (mode : ℕ) where
         (read_of mode interface words ≡ Err SkippedAddress) ↔ (ReadBefore × (EightHeld mode info → ⊥) × Nine mode (flag_at 10 info) (address_held info))
     unfolding read_of record_of
     ancillary_refused_by_9 =
-        let exactly = given_exactly Err _ of_packet (λ k. refl) refl SkippedAddress (omega arith) read_rows (read_rows_in_order mode interface words) in
+        let exactly = given_exactly _ SkippedAddress read_rows (read_rows_in_order mode interface words) in
         let up_to_lem = rows_before SkippedAddress read_rows in
         ninth (test_of OutsideTheClock read_rows) (test_of SkippedAddress read_rows) (test_of UnusedBitSet read_rows)
         (λ before. eight_held_exactly mode (few_of before) info) (λ before. nine_exactly mode (few_of before) (flag_at 10 info) (address_held info))
@@ -168,7 +167,7 @@ module _ (interface : Interface) (mode : ℕ) where
         ↔ (ReadBefore × (EightHeld mode info → ⊥) × (Nine mode (flag_at 10 info) (address_held info) → ⊥) × TenHeld mode info)
     unfolding read_of record_of
     ancillary_refused_by_10 =
-        let exactly = given_exactly Err _ of_packet (λ k. refl) refl UnusedBitSet (omega arith) read_rows (read_rows_in_order mode interface words) in
+        let exactly = given_exactly _ UnusedBitSet read_rows (read_rows_in_order mode interface words) in
         let up_to_lem = rows_before UnusedBitSet read_rows in
         tenth (test_of OutsideTheClock read_rows) (test_of SkippedAddress read_rows) (test_of UnusedBitSet read_rows)
         (λ before. eight_held_exactly mode (few_of before) info) (λ before. nine_exactly mode (few_of before) (flag_at 10 info) (address_held info))

@@ -7,9 +7,10 @@ use mathlib.Core.Bool.{Bool, true, false, cond}
 use mathlib.Core.Logic.{◌↔◌}
 use native.Mathlib.Omega.{arith}
 use borrow.Author.Tests.{ltb-true, ltb-false, eqb-true, eq-eqb, not-false}
+use Rattle.refusals.proofs.Results.{accepted_so}
 use Rattle.std.specs.Prelude.{Err, Ok}
 use Rattle.refusals.specs.declared.types.Refusal.TheVariants.{OutsideTheClock, UnknownMode}
-use Rattle.refusals.proofs.Answered.{Clear, otherwise_accepted, accepted_as}
+use Rattle.refusals.proofs.Answered.{Clear, otherwise_accepted}
 use Rattle.refusals.proofs.ByNumber.{clear_at, clear_from}
 use Rattle.rates.specs.declared.types.Flag.{Flag}
 use Rattle.rates.specs.declared.types.Flag.TheVariants.{No, Yes}
@@ -44,7 +45,7 @@ module _ (mode : ℕ) where
   -- bits that were unpacked are clear of refusals
   pub unpacked_clear : (n : ℕ) (r : Record) → unpacked_in mode n ≡ Ok r → Clear (with_mode mode (bits_refusals_in mode n))
   unfolding unpacked_in
-  unpacked_clear n r e = (accepted_as Err (Ok (record_in mode n)) (with_mode mode (bits_refusals_in mode n)) (Ok r) rate.no_record e).0
+  unpacked_clear n r e = (accepted_so (with_mode mode (bits_refusals_in mode n)) e).0
 
   -- a record makes 64 bits exactly where those bits hold its first picture, and its place is one of the mode's
   pub one_to_one :
@@ -93,8 +94,8 @@ module _ (mode : ℕ) where
   unfolding shown_in unpacked_in record_of
   shown_held shows n r e =
       let rows = with_mode mode (bits_refusals_in mode n) in
-      let taken = accepted_as Err (Ok (shown_record mode shows n)) rows (Ok r) rate.no_record e in
-      (otherwise_accepted Err (Ok (record_in mode n)) rows taken.0, ap (rate.record_held r) taken.1)
+      let taken = accepted_so rows e in
+      (otherwise_accepted Err (Ok (record_in mode n)) rows taken.0, taken.1)
 
   -- a record makes 64 bits and shows its picture exactly where those bits, at the place that is shown, are the record
   pub shown_one_to_one :

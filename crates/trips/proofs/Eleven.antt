@@ -24,7 +24,6 @@ use Rattle.atc.specs.declared.types.Interface.{Interface}
 use Rattle.atc.specs.Records.{shows_by, record_refusals_for}
 use Rattle.atc.specs.Calls as atc
 use Rattle.atc.proofs.Answers as ancillary
-use Rattle.trips.proofs.Nineteen.{of_written}
 
 module _ (mode : ℕ) (r : Record) where
   -- the record's list clears it, on a line
@@ -35,13 +34,13 @@ module _ (mode : ℕ) (r : Record) where
       (start : ℕ) (run : List ℕ) → (ltc.written_of mode r start run ≡ Err MarkSet) ↔ (Stands × (ltc.mark_or_second mode r ≡ true))
   unfolding ltc.written_of ltc.written_rows
   linear_refused_by_11 start run =
-      given_exactly Err (Ok tt) of_written (λ k. refl) refl MarkSet (omega arith) (ltc.written_rows mode r start run) (linear.written_rows_in_order mode r start run)
+      given_exactly _ MarkSet (ltc.written_rows mode r start run) (linear.written_rows_in_order mode r start run)
 
   pub interval_refused_by_11 :
       (start : ℕ) (run : List ℕ) → (vitc.written_of mode r start run ≡ Err MarkSet) ↔ (Stands × (unshown mode ByMark r ≡ true))
   unfolding vitc.written_of
   interval_refused_by_11 start run =
-      given_exactly Err (Ok tt) of_written (λ k. refl) refl MarkSet (omega arith) (vitc.written_rows mode r start run) (interval.written_rows_in_order mode r start run)
+      given_exactly _ MarkSet (vitc.written_rows mode r start run) (interval.written_rows_in_order mode r start run)
 
   pub ancillary_refused_by_11 :
       (interface : Interface) (type second start : ℕ) (run : List ℕ)
@@ -53,7 +52,7 @@ module _ (mode : ℕ) (r : Record) where
       let rows = atc.written_rows mode interface r type second start run in
       let before = rows_before MarkSet rows in
       let exactly =
-      given_exactly Err (Ok tt) of_written (λ k. refl) refl MarkSet (omega arith) rows
+      given_exactly _ MarkSet rows
       (ancillary.written_rows_in_order mode interface r type second start run) in (
         λ e. (let clear = (exactly.0 e).0 in (
           (

@@ -26,11 +26,6 @@ use Rattle.polarity.specs.Word.{reading, sync_word, odd_zeros, polarity_bit}
 use Rattle.ltc.specs.Calls.{read_refusals, read_of}
 use Rattle.ltc.proofs.Rows.{read_rows_in_order}
 
--- the number that a word is refused with
-number_in : Result Word Refusal → ℕ
-number_in (Ok (reading r found)) = 0
-number_in (Err n) = n
-
 both : (odd : Bool) (bit : Flag) → (odd && is_yes bit) ≡ true → (odd ≡ true) × (bit ≡ Yes)
 both true Yes e = (refl, refl)
 both true No e = absurd (true≢false (sym e))
@@ -50,9 +45,9 @@ module _ (mode : ℕ) (word : List ℕ) where
   before = rows_before WrongCheck rows
 
   there : read_of mode word ≡ Err WrongCheck → Miscorrected mode word
-  unfolding read_of number_in
+  unfolding read_of
   there e =
-      let given = (given_exactly Err _ number_in (λ k. refl) refl WrongCheck (omega arith) rows (read_rows_in_order mode word)).0 e in
+      let given = (given_exactly _ WrongCheck rows (read_rows_in_order mode word)).0 e in
       let clear = given.0 in
       let set = both (odd_zeros word) (polarity_bit (rate_at mode) word) given.1 in (
         eqb-true (length word) 80 (not-false _ (clear_at WrongLength before clear)),

@@ -9,15 +9,15 @@ use mathlib.Core.Logic.{◌↔◌}
 use lib.Dec.{eqb}
 use lib.ListN.{length, take, drop}
 use borrow.Author.Tests.{eq-eqb, eqb-true, not-false}
+use Rattle.refusals.proofs.Results.{accepted_so}
 use Rattle.std.specs.Prelude.{Err, Ok}
 use Rattle.refusals.specs.declared.types.Refusal.TheVariants.{ElementTooHigh, MarkSet, OutsideTheClock, UnknownMode, WrongCheck, WrongLength, WrongSync}
-use Rattle.refusals.proofs.Answered.{Clear, otherwise_accepted, accepted_as}
+use Rattle.refusals.proofs.Answered.{Clear, otherwise_accepted}
 use Rattle.refusals.proofs.ByNumber.{clear_at, clear_from, clear_before, clear_whole}
 use Rattle.runs.specs.Run.{placed}
 use Rattle.runs.proofs.Outcomes.{done_clear, clear_done, stored, stored_reads, room_for}
 use Rattle.record.specs.declared.types.Record.{Record}
 use Rattle.record.proofs.Marks.{info_below as info_small}
-use Rattle.trips.proofs.Records.{no_record}
 use Rattle.modes.specs.Modes.{rate_at, with_mode}
 use Rattle.modes.specs.Calls.{information_in, bits_refusals_in, write_refusals_in, packed_in}
 use Rattle.modes.specs.declared.types.Shows.TheVariants.{ByMark}
@@ -43,7 +43,7 @@ module _ (mode : ℕ) (r : Record) (line : List ℕ) where
       there : read_of mode line ≡ Ok r → Sound line × (shown_in mode ByMark (info_in line) ≡ Ok r)
       there e =
           let rows = read_refusals mode line in
-          let taken = accepted_as Err (Ok (shown_record mode ByMark (info_in line))) rows (Ok r) no_record e in
+          let taken = accepted_so rows e in
           let clear = taken.0 in
           let known = clear_at UnknownMode rows clear in
           let rest = clear_from OutsideTheClock rows clear in (
@@ -54,20 +54,20 @@ module _ (mode : ℕ) (r : Record) (line : List ℕ) where
               crc = clear_at WrongCheck rows clear;
             },
             otherwise_accepted Err (Ok (shown_record mode ByMark (info_in line))) (with_mode mode (bits_refusals_in mode (info_in line))) (known, rest)
-                ∙ taken.1,
+                ∙ ap Ok taken.1,
           )
 
       back : Sound line × (shown_in mode ByMark (info_in line) ≡ Ok r) → read_of mode line ≡ Ok r
       back h =
           let s = h.0 in
           let bits = with_mode mode (bits_refusals_in mode (info_in line)) in
-          let taken = accepted_as Err (Ok (shown_record mode ByMark (info_in line))) bits (Ok r) no_record h.1 in
+          let taken = accepted_so bits h.1 in
           let ninety : not (eqb (length line) 90) ≡ false = rw (eq-eqb (length line) 90 s.long) in
           let known = clear_at UnknownMode bits taken.0 in
           let rest = clear_from OutsideTheClock bits taken.0 in
           otherwise_accepted Err (Ok (shown_record mode ByMark (info_in line))) (read_refusals mode line)
           (ninety, (known, (s.clean, (s.pairs, (s.crc, rest)))))
-          ∙ taken.1
+          ∙ ap Ok taken.1
 
   -- a record that is accepted, and whose mark shows its picture, makes exactly the line that reads as it
   pub made_reads : (Acceptable mode r × (line_of mode r ≡ line)) ↔ (read_of mode line ≡ Ok r)

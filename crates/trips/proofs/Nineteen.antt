@@ -28,15 +28,6 @@ use Rattle.atc.specs.Lines.{lacks_entry, is_impossible_line}
 use Rattle.atc.specs.Calls.{read_refusals, read_of, written_rows, written_of}
 use Rattle.atc.proofs.Answers.{read_rows_in_order, written_rows_in_order}
 
--- the number that a read, or a write, is refused with, and 0 where it is not
-abbrev pub of_packet : Result Contents Refusal → ℕ
-of_packet (Ok contents) = 0
-of_packet (Err n) = n
-
-abbrev pub of_written : Result Unit Refusal → ℕ
-of_written (Ok tt) = 0
-of_written (Err n) = n
-
 -- "types 1 and 2" claim a line, and no others
 pub claims_a_line : (interface : Interface) (type second : ℕ) → is_impossible_line interface type second ≡ true → (type ≡ 1) ⊎ (type ≡ 2)
 claims_a_line interface type second e = go (eqb type 1) refl (both_true (eqb type 1 || eqb type 2) (lacks_entry interface second) e).0
@@ -85,7 +76,7 @@ module _ (mode : ℕ) (interface : Interface) where
     unfolding read_of
     read_refused_by_19 =
         let before = rows_before ImpossibleLine read_rows in
-        let exactly = given_exactly Err _ of_packet (λ k. refl) refl ImpossibleLine (omega arith) read_rows (read_rows_in_order mode interface words) in (
+        let exactly = given_exactly _ ImpossibleLine read_rows (read_rows_in_order mode interface words) in (
           λ e. (let is = exactly.0 e in
               (clear_before UnknownType before is.0, (low_mode mode interface read_type (second_in words) (clear_at UnknownType before is.0) is.1, is.1))),
           λ both. exactly.1 (
@@ -100,7 +91,7 @@ module _ (mode : ℕ) (interface : Interface) where
     unfolding read_of
     read_refused_by_23 =
         let before = rows_before MisnamedMode read_rows in
-        let exactly = given_exactly Err _ of_packet (λ k. refl) refl MisnamedMode (omega arith) read_rows (read_rows_in_order mode interface words) in (
+        let exactly = given_exactly _ MisnamedMode read_rows (read_rows_in_order mode interface words) in (
           λ e. (let is = exactly.0 e in (clear_before UnknownType before is.0, (clear_at UnknownType before is.0, is.1))),
           λ both. exactly.1 (
             clear_whole UnknownType before both.0
@@ -120,7 +111,7 @@ module _ (mode : ℕ) (interface : Interface) where
     written_refused_by_19 =
         let before = rows_before ImpossibleLine write_rows in
         let exactly =
-        given_exactly Err (Ok tt) of_written (λ k. refl) refl ImpossibleLine (omega arith) write_rows
+        given_exactly _ ImpossibleLine write_rows
         (written_rows_in_order mode interface r type second start run) in (
           λ e. (let is = exactly.0 e in
               (clear_at UnknownMode before is.0, (low_mode mode interface type second (clear_at UnknownType before is.0) is.1, is.1))),
@@ -134,7 +125,7 @@ module _ (mode : ℕ) (interface : Interface) where
     written_refused_by_23 =
         let before = rows_before MisnamedMode write_rows in
         let exactly =
-        given_exactly Err (Ok tt) of_written (λ k. refl) refl MisnamedMode (omega arith) write_rows
+        given_exactly _ MisnamedMode write_rows
         (written_rows_in_order mode interface r type second start run) in (
           λ e. (let is = exactly.0 e in (clear_at UnknownMode before is.0, (clear_at UnknownType before is.0, is.1))),
           λ both. exactly.1 ((both.0, (both.1.0, (no_line mode interface type second both.1.0 both.1.1, tt))), both.1.1),

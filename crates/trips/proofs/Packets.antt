@@ -11,11 +11,12 @@ use native.Mathlib.Omega.{arith}
 use lib.ListN.{length, take, drop, length-take}
 use lib.Dec.{ltb, eqb}
 use borrow.Author.Tests.{ltb-false, eqb-true, not-false}
+use Rattle.refusals.proofs.Results.{accepted_so}
 use Rattle.std.specs.Prelude.{Err, Ok, Result}
 use Rattle.refusals.specs.declared.types.Refusal.TheVariants.{NoRoom, OutsideTheClock, UnknownMode, UnknownType}
 use Rattle.refusals.specs.declared.types.Refusal.{Refusal}
 use Rattle.refusals.specs.Answer.{Cause}
-use Rattle.refusals.proofs.Answered.{Clear, neither, otherwise_accepted, accepted_as}
+use Rattle.refusals.proofs.Answered.{Clear, neither, otherwise_accepted}
 use Rattle.refusals.proofs.ByNumber.{rows_from, rows_before, clear_at, clear_from, clear_before, clear_whole}
 use Rattle.runs.specs.Run.{placed, lacks_room}
 use Rattle.runs.proofs.Outcomes.{done_clear, clear_done, stored, stored_reads, has_room, room_for}
@@ -99,10 +100,6 @@ module _ (mode : ℕ) (interface : Interface) (r : Record) (type second : ℕ) w
       past_the_payload mode interface words (clear_whole UnknownType before (form_clear mode info type second known) (rw (typed, next) ok.1))
       ∙ rw (typed, next, info_again mode info type second small, held)
 
-contents_in : Contents → Result Contents Refusal → Contents
-contents_in other (Ok contents) = contents
-contents_in other (Err n) = other
-
 -- what a packet that is clear of refusals holds can be written, and this is its packet
 module _ (mode : ℕ) (interface : Interface) (words : List ℕ) (clear : Clear (read_refusals mode interface words)) where
   abbrev info : ℕ
@@ -136,14 +133,10 @@ carried_in mode words = contents_with (held_in mode (type_in words) (info_in (da
 pub read_clear :
     (mode : ℕ) (interface : Interface) (words : List ℕ) (contents : Contents) → read_of mode interface words ≡ Ok contents
     → Clear (read_refusals mode interface words) × (carried_in mode words ≡ contents)
-unfolding read_of contents_in
+unfolding read_of
 read_clear mode interface words contents e =
-    let taken = accepted_as Err (Ok (carried_in mode words)) (read_refusals mode interface words) (Ok contents) apart e in
-    (taken.0, ap (contents_in contents) taken.1)
-  where
-    apart : (k : Refusal) → Err k ≡ Ok contents → ⊥
-    apart k same = let z : ◌≡◌ {A = ℕ} 0 1 = cc in omega arith
-
+    let taken = accepted_so (read_refusals mode interface words) e in
+    (taken.0, taken.1)
 -- it had 23 words, and its second byte is a byte
 pub read_sized :
     (mode : ℕ) (interface : Interface) (words : List ℕ) (contents : Contents) → read_of mode interface words ≡ Ok contents

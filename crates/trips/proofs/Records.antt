@@ -9,11 +9,12 @@ use native.Mathlib.Omega.{arith}
 use lib.Dec.{ltb}
 use lib.ListN.{get_or, take}
 use borrow.Author.Tests.{ltb-false, le-ltb}
+use Rattle.refusals.proofs.Results.{accepted_so}
 use Rattle.refusals.specs.declared.types.Refusal.TheVariants.{OutsideTheClock, SkippedAddress, UnusedBitSet}
 use Rattle.std.specs.Prelude.{Err, Ok, Result}
 use Rattle.refusals.specs.declared.types.Refusal.{Refusal}
 use Rattle.refusals.specs.Answer.{Cause}
-use Rattle.refusals.proofs.Answered.{Clear, neither, otherwise_accepted, accepted_as}
+use Rattle.refusals.proofs.Answered.{Clear, neither, otherwise_accepted}
 use Rattle.refusals.proofs.ByNumber.{clear_at}
 use Rattle.rates.specs.declared.types.Rate.{Rate}
 use Rattle.rates.specs.declared.types.Rate.TheVariants.{At24, At25, At30}
@@ -207,16 +208,6 @@ module _ (rate : Rate) (n : ℕ) (low : n < 2 ^ 64) (clear : Clear (bits_refusal
       let again = clear_with rate (record_of rate n) (digit_above_9 n) false (group_above_15 (record_of rate n).groups) false written_of_read.1 refl clear in
       otherwise_accepted Err _ (write_refusals rate (record_of rate n)) again ∙ ap Ok written_of_read.0
 
-pub no_bits : {n : ℕ} (k : Refusal) → Err k ≡ Ok n → ⊥
-no_bits k e = let z : ◌≡◌ {A = ℕ} 0 1 = cc in omega arith
-
-pub no_record : {r : Record} (k : Refusal) → Err k ≡ Ok r → ⊥
-no_record k e = let z : ◌≡◌ {A = ℕ} 0 1 = cc in omega arith
-
-abbrev pub record_held : Record → Result Record Refusal → Record
-record_held r (Ok s) = s
-record_held r (Err n) = r
-
 -- said of the calls: a record makes 64 bits exactly where those bits hold the record
 pub one_to_one : (rate : Rate) (n : ℕ) (r : Record) → n < 2 ^ 64 → packed_of rate r ≡ Ok n ↔ unpacked_of rate n ≡ Ok r
 unfolding packed_of unpacked_of
@@ -224,12 +215,12 @@ one_to_one rate n r low = (there, back)
   where
     there : packed_of rate r ≡ Ok n → unpacked_of rate n ≡ Ok r
     there e =
-        let taken = accepted_as Err _ (write_refusals rate r) (Ok n) no_bits e in
-        let same : info_of rate r ≡ n = cc taken.1 in
+        let taken = accepted_so (write_refusals rate r) e in
+        let same : info_of rate r ≡ n = taken.1 in
         subst (λ (m : ℕ). unpacked_of rate m ≡ Ok r) same (unpacked rate r taken.0)
 
     back : unpacked_of rate n ≡ Ok r → packed_of rate r ≡ Ok n
     back e =
-        let taken = accepted_as Err _ (bits_refusals rate n) (Ok r) no_record e in
-        let same : record_of rate n ≡ r = cc taken.1 in
+        let taken = accepted_so (bits_refusals rate n) e in
+        let same : record_of rate n ≡ r = taken.1 in
         subst (λ (s : Record). packed_of rate s ≡ Ok n) same (packed rate n low taken.0)

@@ -7,10 +7,11 @@ use mathlib.Core.List.{List}
 use mathlib.Core.Logic.{◌↔◌}
 use native.Mathlib.Omega.{arith}
 use borrow.Author.Tests.{leb-true, lt-ltb, leb-false}
+use Rattle.refusals.proofs.Results.{accepted_so}
 use Rattle.std.specs.Prelude.{Err, Ok}
 use Rattle.refusals.specs.declared.types.Refusal.TheVariants.{OutsideTheClock, SkippedAddress, UnusedBitSet}
 use Rattle.refusals.specs.Answer.{Cause}
-use Rattle.refusals.proofs.Answered.{Clear, neither, otherwise_accepted, accepted_as}
+use Rattle.refusals.proofs.Answered.{Clear, neither, otherwise_accepted}
 use Rattle.refusals.proofs.ByNumber.{clear_at}
 use Rattle.rates.specs.declared.types.Rate.{Rate}
 use Rattle.rates.specs.declared.types.Flag.{Flag}
@@ -29,7 +30,7 @@ use Rattle.superframes.specs.Calls.{bits_refusals, write_refusals, unpacked_of, 
 use Rattle.superframes.specs.Bare.{bare}
 use Rattle.superframes.proofs.Bare.{bare_clear}
 use Rattle.ltc.proofs.Evened.{is_no}
-use Rattle.trips.proofs.Records.{bit_of_flag, read_back, no_digit_above_9, info_again, no_group_above_15, no_bits, no_record, record_held}
+use Rattle.trips.proofs.Records.{bit_of_flag, read_back, no_digit_above_9, info_again, no_group_above_15}
 
 -- a place that is not outside, where several share an address, is one of the pictures'
 below : (pictures place : ℕ) → 1 < pictures → place_outside pictures place ≡ false → place < pictures
@@ -171,14 +172,14 @@ module _ (rate : Rate) (pictures : ℕ) (several : 1 < pictures) (few : pictures
     where
       there : packed_of rate pictures r ≡ Ok n → unpacked_of rate pictures n ≡ Ok r
       there e =
-          let taken = accepted_as Err _ (write_refusals rate pictures r) (Ok n) no_bits e in
-          let same : info_of rate (spread pictures r) ≡ n = cc taken.1 in
+          let taken = accepted_so (write_refusals rate pictures r) e in
+          let same : info_of rate (spread pictures r) ≡ n = taken.1 in
           subst (λ (m : ℕ). unpacked_of rate pictures m ≡ Ok r) same (unpacked r taken.0)
 
       back : unpacked_of rate pictures n ≡ Ok r → packed_of rate pictures r ≡ Ok n
       back e =
-          let taken = accepted_as Err _ (bits_refusals rate pictures n) (Ok r) no_record e in
-          subst (λ (s : Record). packed_of rate pictures s ≡ Ok n) (ap (record_held r) taken.1) (packed n low taken.0)
+          let taken = accepted_so (bits_refusals rate pictures n) e in
+          subst (λ (s : Record). packed_of rate pictures s ≡ Ok n) (taken.1) (packed n low taken.0)
 
 -- and so by mode, in every mode of a high frame rate
 pub high_one_to_one : (mode : ℕ) → high_rate mode ≡ true → (n : ℕ) (r : Record) → n < 2 ^ 64 → (packed_in mode r ≡ Ok n) ↔ (unpacked_in mode n ≡ Ok r)

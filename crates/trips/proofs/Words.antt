@@ -10,12 +10,13 @@ use native.Mathlib.Omega.{arith}
 use lib.Dec.{eqb}
 use lib.ListN.{length, take, drop}
 use borrow.Author.Tests.{eqb-true, not-false}
+use Rattle.refusals.proofs.Results.{accepted_so}
 use Rattle.std.specs.Prelude.{Err, Ok, Result}
 use Rattle.refusals.specs.declared.types.Refusal.TheVariants.{ElementTooHigh, MarkSet, NoRoom, OutsideTheClock, SkippedAddress, UnknownMode, UnusedBitSet, WrongCheck, WrongLength, WrongSync}
 use Rattle.polarity.specs.declared.types.Word.{Word}
 use Rattle.refusals.specs.declared.types.Refusal.{Refusal}
 use Rattle.refusals.specs.Answer.{Cause}
-use Rattle.refusals.proofs.Answered.{Clear, neither, otherwise_accepted, accepted_as}
+use Rattle.refusals.proofs.Answered.{Clear, neither, otherwise_accepted}
 use Rattle.refusals.proofs.ByNumber.{clear_at, clear_from, clear_before, clear_whole}
 use Rattle.bits.specs.Bits.{value, some_above}
 use Rattle.bits.proofs.Inverse.{value_below}
@@ -96,14 +97,6 @@ module _ (mode : ℕ) (r : Record) (ok : Acceptable mode r) where
   unfolding word_of
   corrected_found = rw (evened mode r fits)
 
-record_read : Record → Result Word Refusal → Record
-record_read r (Ok (reading s found)) = s
-record_read r (Err n) = r
-
-found_read : Found → Result Word Refusal → Found
-found_read found (Ok (reading s other)) = other
-found_read found (Err n) = found
-
 -- what a word that is clear of refusals is made of
 module _ (mode : ℕ) (word : List ℕ) (clear : Clear (read_refusals mode word)) where
   abbrev info : ℕ
@@ -145,17 +138,14 @@ module _ (mode : ℕ) (word : List ℕ) (clear : Clear (read_refusals mode word)
             ∙ sym whole,
       )
 
-no_word : {r : Record} {found : Found} (k : Refusal) → Err k ≡ Ok (reading r found) → ⊥
-no_word k e = let z : ◌≡◌ {A = ℕ} 0 1 = cc in omega arith
-
 -- a word that was read is clear of refusals
 pub read_clear :
     (mode : ℕ) (r : Record) (found : Found) (word : List ℕ) → read_of mode word ≡ Ok (reading r found)
     → Clear (read_refusals mode word) × (marked No (record_in mode (info_in word)) ≡ r) × (found_in word ≡ found)
-unfolding read_of record_read found_read
+unfolding read_of
 read_clear mode r found word e =
-    let taken = accepted_as Err (Ok (reading (marked No (record_in mode (info_in word))) (found_in word))) (read_refusals mode word) (Ok (reading r found)) no_word e in
-    (taken.0, ap (record_read r) taken.1, ap (found_read found) taken.1)
+    let taken = accepted_so (read_refusals mode word) e in
+    (taken.0, ap (λ (w : Word). w.«record») taken.1, ap (λ (w : Word). w.found) taken.1)
 
 -- "a word read and written again by what was found is the same"
 pub written_of_read :
