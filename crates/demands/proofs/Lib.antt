@@ -36,4 +36,3 @@ pub mod Numbers
 pub mod Refused
 pub mod Tests
 pub mod Counting
-use Rattle.pictures.specs.declared.types.Counting.{Counting}

@@ -27,7 +27,7 @@ use Rattle.register.proofs.Registers.{held_clean, check_of}
 use Rattle.reader.proofs.Taken.{push_few, push_clean}
 
 -- "A reader refused with 2, 3 or 13 comes back the same, with that bit not taken": whichever of the three applies
-pub not_taken : (r : Reader) (element n : ℕ) → test_of n (feed_refusals r element) ≡ true → ((stepped_of r element).reader ≡ r) × (takes_bit r element ≡ false)
+pub not_taken : (r : Reader) (element : ℕ) (n : Refusal) → test_of n (feed_refusals r element) ≡ true → ((stepped_of r element).reader ≡ r) × (takes_bit r element ≡ false)
 unfolding stepped_of
 not_taken r element n refused =
     let rows = feed_refusals r element in

@@ -46,7 +46,7 @@ module _ (mode : ℕ) (window : List ℕ) where
   backward_silent Both none = go (read_of mode (reverse window)) refl
     where
       go : (word : Result Word Refusal) → read_of mode (reverse window) ≡ word → told_backward Both word ≡ Nothing
-      go (Ok (reading r found)) e = absurd (none record { bits = reverse window; says = r; found = found; accepted = e } refl)
+      go (Ok word) e = absurd (none record { bits = reverse window; says = word.«record»; found = word.found; accepted = e } refl)
       go (Err n) e = refl
 
   silent : (ways : Ways) → (drop 64 window ≡ sync_word → ⊥) → Unturned mode ways window → heard_in mode ways window ≡ Nothing

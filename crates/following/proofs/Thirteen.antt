@@ -8,6 +8,7 @@ use mathlib.Core.Logic.{◌↔◌}
 use native.Mathlib.Omega.{arith}
 use lib.Dec.{ltb, eqb}
 use lib.ListN.{length, drop}
+use Rattle.refusals.specs.Table.{number}
 use Rattle.polarity.specs.declared.types.Word.{Word}
 use Rattle.refusals.specs.declared.types.Refusal.{Refusal}
 use Rattle.std.specs.Prelude.{Err, Result, Ok}
@@ -35,52 +36,52 @@ use Rattle.following.proofs.Passing.{step_passing, reached_passing, passing_goes
 use Rattle.following.proofs.Reached.{reached_exactly}
 
 -- the number of a refusal
-abbrev number : Heard → ℕ
-number Nothing = 0
-number (Accepted r) = 0
-number (Refused n) = n
+abbrev number_said : Heard → ℕ
+number_said Nothing = 0
+number_said (Accepted r) = 0
+number_said (Refused r) = number r
 
 -- no code word is refused by 13
-word_below : (mode : ℕ) (bits : List ℕ) → number (told (read_of mode bits)) < 13
+word_below : (mode : ℕ) (bits : List ℕ) → number_said (told (read_of mode bits)) < 13
 unfolding read_of
 word_below mode bits =
-    rw (carried (λ (w : Result Word Refusal). number (told w)) Err (Ok (reading (marked No (record_in mode (info_in bits))) (found_in bits))) (read_refusals mode bits))
+    rw (carried (λ (w : Result Word Refusal). number_said (told w)) Err (Ok (reading (marked No (record_in mode (info_in bits))) (found_in bits))) (read_refusals mode bits))
     (given_below 13 (omega arith) (read_refusals mode bits) (omega arith))
 
-forward_below : (mode : ℕ) (bits : List ℕ) → number (forward_in mode bits) < 13
+forward_below : (mode : ℕ) (bits : List ℕ) → number_said (forward_in mode bits) < 13
 unfolding forward_in
 forward_below mode bits = go (eqb (length bits) 80 && same (drop 64 bits) sync_word)
   where
-    go : (t : Bool) → number (cond t (told (read_of mode bits)) Nothing) < 13
+    go : (t : Bool) → number_said (cond t (told (read_of mode bits)) Nothing) < 13
     go true = word_below mode bits
     go false = omega arith
 
 -- and nothing that is heard backward is refused
-backward_below : (ways : Ways) (word : Result Word Refusal) → number (told_backward ways word) < 13
+backward_below : (ways : Ways) (word : Result Word Refusal) → number_said (told_backward ways word) < 13
 backward_below ForwardOnly word = omega arith
-backward_below Both (Ok (reading r found)) = omega arith
+backward_below Both (Ok word) = omega arith
 backward_below Both (Err n) = omega arith
 
-either_below : (forward backward : Heard) → number forward < 13 → number backward < 13 → number (or_else forward backward) < 13
+either_below : (forward backward : Heard) → number_said forward < 13 → number_said backward < 13 → number_said (or_else forward backward) < 13
 either_below Nothing backward f b = b
 either_below (Accepted r) backward f b = f
 either_below (Refused n) backward f b = f
 
-heard_below : (mode : ℕ) (ways : Ways) (bits : List ℕ) → number (heard_in mode ways bits) < 13
+heard_below : (mode : ℕ) (ways : Ways) (bits : List ℕ) → number_said (heard_in mode ways bits) < 13
 unfolding heard_in backward_in
 heard_below mode ways bits =
     either_below (forward_in mode bits) (backward_in mode ways bits) (forward_below mode bits) (backward_below ways (read_of mode (reverse bits)))
 
 -- a reader whose mode and state are sound never says 13
-step_below : (r : Reader) (element : ℕ) → Passing r → number (stepped_of r element).heard < 13
+step_below : (r : Reader) (element : ℕ) → Passing r → number_said (stepped_of r element).heard < 13
 unfolding stepped_of
 step_below r element p = go (ltb 1 element) refl
   where
-    go : (t : Bool) → ltb 1 element ≡ t → number (stepped_of r element).heard < 13
+    go : (t : Bool) → ltb 1 element ≡ t → number_said (stepped_of r element).heard < 13
     go true t = rw (p.known, p.passes, t) (omega arith)
     go false t = rw (p.known, p.passes, t) (heard_below r.mode r.ways (push (held_bits r) element))
 
-block_below : (run : List ℕ) (r : Reader) (limit : ℕ) → Passing r → number (going r limit run).heard < 13
+block_below : (run : List ℕ) (r : Reader) (limit : ℕ) → Passing r → number_said (going r limit run).heard < 13
 unfolding going
 block_below [] r limit p = omega arith
 block_below (element ∷ elements) r limit p =
@@ -88,8 +89,8 @@ block_below (element ∷ elements) r limit p =
     (block_below elements (stepped_of r element).reader (limit - 1) (step_passing r element p))
   where
     go : (l : Bool) → eqb limit 0 ≡ l → (t : Bool) → ltb 1 element ≡ t → (a : Bool) → is_answer (stepped_of r element).heard ≡ a
-        → number (going (stepped_of r element).reader (limit - 1) elements).heard < 13
-        → number (going r limit (element ∷ elements)).heard < 13
+        → number_said (going (stepped_of r element).reader (limit - 1) elements).heard < 13
+        → number_said (going r limit (element ∷ elements)).heard < 13
     go true l t e a f rest = rw l (omega arith)
     go false l true e a f rest = rw (l, e) (step_below r element p)
     go false l false e true f rest = rw (l, e, f) (step_below r element p)
@@ -98,12 +99,12 @@ block_below (element ∷ elements) r limit p =
 module _ (r : Reader) (known : unknown r.mode ≡ false) (low : r.info < 2 ^ 64) (high : r.sync < 2 ^ 16) where
   -- an answer that is 13 where the check fails and below 13 where it passes
   exactly :
-      (heard : Heard) → (unreached r ≡ true → heard ≡ Refused StateNotReached) → (Passing r → number heard < 13)
+      (heard : Heard) → (unreached r ≡ true → heard ≡ Refused StateNotReached) → (Passing r → number_said heard < 13)
       → (heard ≡ Refused StateNotReached) ↔ (Reached r → ⊥)
   exactly heard fails sound = (there, back (unreached r) refl)
     where
       there : heard ≡ Refused StateNotReached → Reached r → ⊥
-      there e reached = let below = sound (reached_passing r known reached) in let is : number heard ≡ 13 = ap number e in omega arith
+      there e reached = let below = sound (reached_passing r known reached) in let is : number_said heard ≡ 13 = ap number_said e in omega arith
 
       back : (t : Bool) → unreached r ≡ t → (Reached r → ⊥) → heard ≡ Refused StateNotReached
       back true t none = fails t

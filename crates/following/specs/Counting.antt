@@ -1,6 +1,8 @@
 -- "The count is of the steps in which the single-bit rule takes a bit."
 -- Assumes nothing.
+use Rattle.refusals.specs.declared.types.Refusal.{Refusal}
 use Rattle.std.specs.Prelude.{ℕ, ◌+◌, Bool, true, false, cond, List, [], ◌∷◌}
+use Rattle.refusals.specs.declared.types.Refusal.{Refusal}
 use Rattle.refusals.specs.Answer.{answer}
 use Rattle.register.specs.declared.types.Reader.{Reader}
 use Rattle.reader.specs.Steps.{feed_refusals, stepped_of}
@@ -8,7 +10,7 @@ use Rattle.reader.specs.Blocks.{is_answer}
 
 -- a step takes its bit where it is not refused by 2, 13 or 3
 abbrev pub takes_bit : Reader → ℕ → Bool
-takes_bit reader element = answer (λ (n : ℕ). false) (feed_refusals reader element) true
+takes_bit reader element = answer (λ (_ : Refusal). false) (feed_refusals reader element) true
 
 -- in how many steps a bit is taken
 unfoldable pub steps_taking : Reader → List ℕ → ℕ

@@ -6,4 +6,3 @@ pub mod Reach
 pub mod Counting
 pub mod Cuts
 pub mod Following
-use Rattle.pictures.specs.declared.types.Counting.{Counting}

@@ -6,4 +6,3 @@ pub mod Unnamed
 pub mod Counting
 pub mod Carriers
 pub mod Reading
-use Rattle.pictures.specs.declared.types.Counting.{Counting}
