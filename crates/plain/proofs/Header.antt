@@ -5,8 +5,8 @@ use mathlib.Core.Path.{◌≡◌, refl}
 use mathlib.Core.Bool.{Bool, false, ◌||◌}
 use mathlib.Core.List.{List, [], ◌∷◌}
 use lib.Dec.{eqb}
-use Rattle.std.specs.Prelude.{Ok}
-use Rattle.refusals.specs.Table.{the_order}
+use Rattle.std.specs.Prelude.{Ok, map}
+use Rattle.refusals.specs.Table.{number, the_order}
 use Rattle.rates.specs.declared.types.Flag.{Flag}
 use Rattle.rates.specs.declared.types.Flag.TheVariants.{No, Yes}
 use Rattle.rates.specs.Face.{showing}
@@ -30,7 +30,7 @@ abbrev has : ℕ → List ℕ → Bool
 has n [] = false
 has n (m ∷ ms) = eqb n m || has n ms
 
-pub no_refusal_is_a_code : (has 0 the_order ≡ false) × (has 100 the_order ≡ false)
+pub no_refusal_is_a_code : (has 0 (map number the_order) ≡ false) × (has 100 (map number the_order) ≡ false)
 no_refusal_is_a_code = (refl, refl)
 
 -- SHX_LINES_525 and its neighbours, SHX_CORRECTED, SHX_FORWARD_ONLY, SHX_FORWARD

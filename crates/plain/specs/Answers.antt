@@ -1,6 +1,7 @@
 -- "an answer has a code: 0 done or nothing, a refusal's own number, 100 accepted; one convention for all calls", and what stands beside the code: zeros on a refusal, and
 -- where a reader answers nothing.
 -- Assumes nothing.
+use Rattle.refusals.specs.Table.{number}
 use Rattle.polarity.specs.Word.{reading}
 use Rattle.clock.specs.declared.types.DayFrame.{DayFrame}
 use Rattle.refusals.specs.declared.types.Refusal.{Refusal}
@@ -68,40 +69,40 @@ no_record =
 -- a count: done, and the number, the picture or the distance
 abbrev pub number_answer : Result DayFrame Refusal → NumberAnswer
 number_answer (Ok n) = record { code = done; number = n.0 }
-number_answer (Err k) = record { code = k; number = 0 }
+number_answer (Err r) = record { code = number r; number = 0 }
 
 abbrev pub second_answer : Result PictureInSecond Refusal → SecondAnswer
 second_answer (Ok n) = record { code = done; number = n.0 }
-second_answer (Err k) = record { code = k; number = 0 }
+second_answer (Err r) = record { code = number r; number = 0 }
 
 abbrev pub picture_answer : Result Picture Refusal → PictureAnswer
 picture_answer (Ok p) = record { code = done; picture = picture_shown p }
-picture_answer (Err k) = record { code = k; picture = no_picture }
+picture_answer (Err r) = record { code = number r; picture = no_picture }
 
 abbrev pub distance_answer : Result ℤ Refusal → DistanceAnswer
 distance_answer (Ok z) = record { code = done; pictures = z }
-distance_answer (Err k) = record { code = k; pictures = pos 0 }
+distance_answer (Err r) = record { code = number r; pictures = pos 0 }
 
 -- a write: done, and nothing beside the code
 abbrev pub written_code : Result Unit Refusal → ℕ
 written_code (Ok tt) = done
-written_code (Err k) = k
+written_code (Err r) = number r
 
 -- a read: accepted, and what was read
 abbrev pub word_answer : Result Word Refusal → WordAnswer
-word_answer (Ok (reading r found)) = record { code = accepted; found = found_shown found; «record» = record_shown r }
-word_answer (Err k) = record { code = k; found = 0; «record» = no_record }
+word_answer (Ok w) = record { code = accepted; found = found_shown w.found; «record» = record_shown w.«record» }
+word_answer (Err r) = record { code = number r; found = 0; «record» = no_record }
 
 abbrev pub line_answer : Result Record Refusal → LineAnswer
 line_answer (Ok r) = record { code = accepted; «record» = record_shown r }
-line_answer (Err k) = record { code = k; «record» = no_record }
+line_answer (Err r) = record { code = number r; «record» = no_record }
 
 abbrev pub contents_with : PlainRecord → ℕ → ℕ → PlainContents
 contents_with r type second = record { «record» = r; payload_type = type; second = second }
 
 abbrev pub packet_answer : Result Contents Refusal → PacketAnswer
 packet_answer (Ok c) = record { code = accepted; contents = contents_with (record_shown c.«record») c.payload_type c.second }
-packet_answer (Err k) = record { code = k; contents = contents_with no_record 0 0 }
+packet_answer (Err r) = record { code = number r; contents = contents_with no_record 0 0 }
 
 -- a step: nothing, accepted with the whole record, or refused; and the reader after it
 abbrev pub heard_with : ℕ → ℕ → ℕ → PlainRecord → PlainHeard
@@ -111,7 +112,7 @@ abbrev pub heard_shown : Heard → PlainHeard
 heard_shown Nothing = heard_with done 0 0 no_record
 heard_shown (Accepted report) =
     heard_with accepted (found_shown report.found) (way_shown report.way) (record_shown report.«record»)
-heard_shown (Refused k) = heard_with k 0 0 no_record
+heard_shown (Refused r) = heard_with (number r) 0 0 no_record
 
 abbrev pub step_with : PlainHeard → PlainReader → StepAnswer
 step_with heard reader = record { heard = heard; reader = reader }

@@ -1,7 +1,6 @@
 // Each answer as a code and what stands beside it.
 ghost use Rattle.std.specs.Prelude.{◌≡◌};
-ghost use Rattle.hearing.specs.declared.types.Heard.TheVariants.{Refused};
-ghost use Rattle.plain.specs.Answers.{number_answer, second_answer, picture_answer, distance_answer, written_code, no_record, word_answer, line_answer, packet_answer, heard_shown, step_answer, block_answer};
+ghost use Rattle.plain.specs.Answers.{number_answer, second_answer, picture_answer, distance_answer, written_code, no_record, word_answer, line_answer, packet_answer, heard_with, heard_shown, step_answer, block_answer};
 
 use atc::Contents;
 use record::Record;
@@ -26,7 +25,10 @@ pub fn number(answer: Result<DayFrame, Refusal>) -> NumberAnswer
             code: DONE,
             number: number.0,
         },
-        Err(code) => NumberAnswer { code, number: 0 },
+        Err(refusal) => NumberAnswer {
+            code: u8::from(refusal),
+            number: 0,
+        },
     }
 }
 
@@ -38,7 +40,10 @@ pub fn in_second(answer: Result<PictureInSecond, Refusal>) -> SecondAnswer
             code: DONE,
             number: number.0,
         },
-        Err(code) => SecondAnswer { code, number: 0 },
+        Err(refusal) => SecondAnswer {
+            code: u8::from(refusal),
+            number: 0,
+        },
     }
 }
 
@@ -50,8 +55,8 @@ pub fn picture(answer: Result<Picture, Refusal>) -> PictureAnswer
             code: DONE,
             picture: picture_shown(p),
         },
-        Err(code) => PictureAnswer {
-            code,
+        Err(refusal) => PictureAnswer {
+            code: u8::from(refusal),
             picture: PlainPicture {
                 hours: 0,
                 minutes: 0,
@@ -71,7 +76,10 @@ pub fn distance(answer: Result<i32, Refusal>) -> DistanceAnswer
             code: DONE,
             pictures,
         },
-        Err(code) => DistanceAnswer { code, pictures: 0 },
+        Err(refusal) => DistanceAnswer {
+            code: u8::from(refusal),
+            pictures: 0,
+        },
     }
 }
 
@@ -80,7 +88,7 @@ pub fn written(answer: Result<(), Refusal>) -> u8
 {
     match answer {
         Ok(()) => DONE,
-        Err(code) => code,
+        Err(refusal) => u8::from(refusal),
     }
 }
 
@@ -114,13 +122,13 @@ pub fn word(answer: Result<Word, Refusal>) -> WordAnswer
     ensures { result ≡ word_answer answer }
 {
     match answer {
-        Ok(held, found) => WordAnswer {
+        Ok(says) => WordAnswer {
             code: ACCEPTED,
-            found: found_shown(found),
-            record: record_shown(held),
+            found: found_shown(says.found),
+            record: record_shown(says.record),
         },
-        Err(code) => WordAnswer {
-            code,
+        Err(refusal) => WordAnswer {
+            code: u8::from(refusal),
             found: 0,
             record: no_record(),
         },
@@ -135,8 +143,8 @@ pub fn line(answer: Result<Record, Refusal>) -> LineAnswer
             code: ACCEPTED,
             record: record_shown(held),
         },
-        Err(code) => LineAnswer {
-            code,
+        Err(refusal) => LineAnswer {
+            code: u8::from(refusal),
             record: no_record(),
         },
     }
@@ -157,8 +165,8 @@ pub fn packet(answer: Result<Contents, Refusal>) -> PacketAnswer
                 },
             }
         }
-        Err(code) => PacketAnswer {
-            code,
+        Err(refusal) => PacketAnswer {
+            code: u8::from(refusal),
             contents: PlainContents {
                 record: no_record(),
                 payload_type: 0,
@@ -169,7 +177,7 @@ pub fn packet(answer: Result<Contents, Refusal>) -> PacketAnswer
 }
 
 pub fn code_alone(code: u8) -> PlainHeard
-    ensures { result ≡ heard_shown (Refused code) }
+    ensures { result ≡ heard_with code 0 0 no_record }
 {
     PlainHeard {
         code,
@@ -195,7 +203,7 @@ fn heard(answer: Heard) -> PlainHeard
                 record: record_shown(held),
             }
         }
-        Heard::Refused(code) => code_alone(code),
+        Heard::Refused(refusal) => code_alone(u8::from(refusal)),
     }
 }
 

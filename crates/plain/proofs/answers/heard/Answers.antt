@@ -2,6 +2,7 @@
 -- Assumes nothing.
 use mathlib.Core.Path.{◌≡◌}
 use Prim.Native.Nat.{ℕ}
+use Rattle.refusals.specs.Table.{number}
 use Rattle.refusals.specs.declared.types.Refusal.{Refusal}
 use Rattle.plain.specs.declared.types.PlainRecord.{PlainRecord}
 use Rattle.plain.specs.Shown.{record_shown}
@@ -10,16 +11,16 @@ use Rattle.hearing.specs.declared.types.Report.{Report}
 use Rattle.hearing.specs.declared.types.Heard.{Heard}
 use Rattle.hearing.specs.declared.types.Heard.TheVariants.{Nothing, Accepted, Refused}
 use Rattle.plain.specs.Shown.{found_shown, way_shown}
-use Rattle.plain.specs.Answers.{heard_with, heard_shown}
+use Rattle.plain.specs.Answers.{no_record, heard_with, heard_shown}
 use Rattle.plain.proofs.answers.heard.Goals as goal
 
 module _ (a : Heard) where
   module _ (h : PlainHeard) where
-    nothing : a ≡ Nothing → h ≡ heard_shown (Refused 0) → h ≡ heard_shown a
+    nothing : a ≡ Nothing → h ≡ heard_with 0 0 0 no_record → h ≡ heard_shown a
     nothing e is = rw e is
 
-    refused : (k : Refusal) → a ≡ Refused k → h ≡ heard_shown (Refused k) → h ≡ heard_shown a
-    refused k e is = rw e is
+    refused : (r : Refusal) (code : ℕ) → a ≡ Refused r → code ≡ number r → h ≡ heard_with code 0 0 no_record → h ≡ heard_shown a
+    refused r code e by is = rw (e, ← by) is
 
   accepted :
       (report : Report) (s : PlainRecord) (found way : ℕ) → a ≡ Accepted report → found ≡ found_shown report.found → way ≡ way_shown report.way

@@ -2,6 +2,7 @@
 -- Assumes nothing.
 use mathlib.Core.Path.{◌≡◌}
 use Prim.Native.Nat.{ℕ}
+use Rattle.refusals.specs.Table.{number}
 use Rattle.refusals.specs.declared.types.Refusal.{Refusal}
 use Rattle.std.specs.Prelude.{Err, Ok, Result}
 use Rattle.record.specs.declared.types.Record.{Record}
@@ -14,11 +15,11 @@ module _ (a : Result Record Refusal) (s : PlainRecord) where
   given : (r : Record) → a ≡ Ok r → s ≡ record_shown r → record { code = 100; «record» = s } ≡ line_answer a
   given r e is = rw (e, is)
 
-  refused : (k : Refusal) → a ≡ Err k → s ≡ no_record → record { code = k; «record» = s } ≡ line_answer a
-  refused k e is = rw (e, is)
+  refused : (r : Refusal) (code : ℕ) → a ≡ Err r → code ≡ number r → s ≡ no_record → record { code = code; «record» = s } ≡ line_answer a
+  refused r code e by is = rw (e, by, is)
 
-pub returns-in-Holds : goal.returns-in-Holds
-returns-in-Holds c = search given
+pub returns-in-Ok : goal.returns-in-Ok
+returns-in-Ok c = search given
 
-pub returns-in-Refused : goal.returns-in-Refused
-returns-in-Refused c = search refused
+pub returns-in-Err : goal.returns-in-Err
+returns-in-Err c = search refused

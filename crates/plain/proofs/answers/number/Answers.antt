@@ -2,6 +2,7 @@
 -- Assumes nothing.
 use mathlib.Core.Path.{◌≡◌}
 use Prim.Native.Nat.{ℕ}
+use Rattle.refusals.specs.Table.{number}
 use Rattle.refusals.specs.declared.types.Refusal.{Refusal}
 use Rattle.std.specs.Prelude.{Err, Ok, Result}
 use Rattle.clock.specs.declared.types.DayFrame.{DayFrame}
@@ -12,11 +13,11 @@ module _ (a : Result DayFrame Refusal) where
   given : (n : DayFrame) → a ≡ Ok n → record { code = 0; number = n.0 } ≡ number_answer a
   given n e = rw e
 
-  refused : (k : Refusal) → a ≡ Err k → record { code = k; number = 0 } ≡ number_answer a
-  refused k e = rw e
+  refused : (r : Refusal) (code : ℕ) → a ≡ Err r → code ≡ number r → record { code = code; number = 0 } ≡ number_answer a
+  refused r code e by = rw (e, by)
 
-pub returns-in-Number : goal.returns-in-Number
-returns-in-Number c = search given
+pub returns-in-Ok : goal.returns-in-Ok
+returns-in-Ok c = search given
 
-pub returns-in-Refused : goal.returns-in-Refused
-returns-in-Refused c = search refused
+pub returns-in-Err : goal.returns-in-Err
+returns-in-Err c = search refused

@@ -2,6 +2,7 @@
 -- Assumes nothing.
 use mathlib.Core.Path.{◌≡◌}
 use Prim.Native.Nat.{ℕ}
+use Rattle.refusals.specs.Table.{number}
 use Rattle.refusals.specs.declared.types.Refusal.{Refusal}
 use Rattle.std.specs.Prelude.{Err, Ok, Result}
 use Rattle.plain.specs.declared.types.PlainRecord.{PlainRecord}
@@ -16,11 +17,11 @@ module _ (a : Result Contents Refusal) (s : PlainRecord) where
       → record { code = 100; contents = contents_with s c.payload_type c.second } ≡ packet_answer a
   given c e is = rw (e, is)
 
-  refused : (k : Refusal) → a ≡ Err k → s ≡ no_record → record { code = k; contents = contents_with s 0 0 } ≡ packet_answer a
-  refused k e is = rw (e, is)
+  refused : (r : Refusal) (code : ℕ) → a ≡ Err r → code ≡ number r → s ≡ no_record → record { code = code; contents = contents_with s 0 0 } ≡ packet_answer a
+  refused r code e by is = rw (e, by, is)
 
-pub returns-in-Holds : goal.returns-in-Holds
-returns-in-Holds c = search given
+pub returns-in-Ok : goal.returns-in-Ok
+returns-in-Ok c = search given
 
-pub returns-in-Refused : goal.returns-in-Refused
-returns-in-Refused c = search refused
+pub returns-in-Err : goal.returns-in-Err
+returns-in-Err c = search refused

@@ -2,6 +2,7 @@
 -- Assumes nothing.
 use mathlib.Core.Path.{◌≡◌}
 use Prim.Native.Nat.{ℕ}
+use Rattle.refusals.specs.Table.{number}
 use Rattle.refusals.specs.declared.types.Refusal.{Refusal}
 use Rattle.std.specs.Prelude.{Err, Ok, Result}
 use Rattle.pictures.specs.declared.types.Picture.{Picture}
@@ -14,11 +15,11 @@ module _ (a : Result Picture Refusal) where
   given : (p : Picture) (q : PlainPicture) → a ≡ Ok p → q ≡ picture_shown p → record { code = 0; picture = q } ≡ picture_answer a
   given p q e is = rw (e, is)
 
-  refused : (k : Refusal) → a ≡ Err k → record { code = k; picture = no_picture } ≡ picture_answer a
-  refused k e = rw e
+  refused : (r : Refusal) (code : ℕ) → a ≡ Err r → code ≡ number r → record { code = code; picture = no_picture } ≡ picture_answer a
+  refused r code e by = rw (e, by)
 
-pub returns-in-At : goal.returns-in-At
-returns-in-At c = search given
+pub returns-in-Ok : goal.returns-in-Ok
+returns-in-Ok c = search given
 
-pub returns-in-Refused : goal.returns-in-Refused
-returns-in-Refused c = search refused
+pub returns-in-Err : goal.returns-in-Err
+returns-in-Err c = search refused

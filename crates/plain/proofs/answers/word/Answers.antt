@@ -2,6 +2,7 @@
 -- Assumes nothing.
 use mathlib.Core.Path.{◌≡◌}
 use Prim.Native.Nat.{ℕ}
+use Rattle.refusals.specs.Table.{number}
 use Rattle.polarity.specs.Word.{reading}
 use Rattle.polarity.specs.declared.types.Word.{Word}
 use Rattle.refusals.specs.declared.types.Refusal.{Refusal}
@@ -16,15 +17,15 @@ use Rattle.plain.proofs.answers.word.Goals as goal
 
 module _ (a : Result Word Refusal) (s : PlainRecord) where
   given :
-      (r : Record) (found : Found) (byte : ℕ) → a ≡ Ok (reading r found) → byte ≡ found_shown found → s ≡ record_shown r
+      (w : Word) (byte : ℕ) → a ≡ Ok w → byte ≡ found_shown w.found → s ≡ record_shown w.«record»
       → record { code = 100; found = byte; «record» = s } ≡ word_answer a
-  given r found byte e by is = rw (e, by, is)
+  given w byte e by is = rw (e, by, is)
 
-  refused : (k : Refusal) → a ≡ Err k → s ≡ no_record → record { code = k; found = 0; «record» = s } ≡ word_answer a
-  refused k e is = rw (e, is)
+  refused : (r : Refusal) (code : ℕ) → a ≡ Err r → code ≡ number r → s ≡ no_record → record { code = code; found = 0; «record» = s } ≡ word_answer a
+  refused r code e by is = rw (e, by, is)
 
-pub returns-in-Holds : goal.returns-in-Holds
-returns-in-Holds c = search given
+pub returns-in-Ok : goal.returns-in-Ok
+returns-in-Ok c = search given
 
-pub returns-in-Refused : goal.returns-in-Refused
-returns-in-Refused c = search refused
+pub returns-in-Err : goal.returns-in-Err
+returns-in-Err c = search refused
