@@ -14,7 +14,7 @@ use Rattle.host.proofs.Firsts.{unnamed, named}
 
 module _ {A B : Type 0} (shown : A → B) (refused : Refusal → A) (mode drop : ℕ) (none : Bool) (tested : none ≡ no_flag drop) where
   pub no_flag_lem :
-      none ≡ true → (past : Bool) (k : ℕ) (answered : A) (b : B) → past ≡ uncounted mode → k ≡ after_mode past → b ≡ shown (refused k)
+      none ≡ true → (past : Bool) (k : Refusal) (answered : A) (b : B) → past ≡ uncounted mode → k ≡ after_mode past → b ≡ shown (refused k)
       → b ≡ counted shown refused mode drop answered
   no_flag_lem e past k answered b asked is told =
       told ∙ ap shown (unnamed refused (with_counting mode []) (no_flag drop) answered k (rw (← tested) e) (is ∙ ap after_mode asked))

@@ -23,14 +23,14 @@ use Rattle.host.proofs.Firsts.{unnamed, named}
 
 -- S is what a reader answers, A what a host is answered: `shown` makes the one of the other, `back` puts a reader beside what was heard, `refusing` is the reader's own refusal
 module _
-    {S A : Type 0} (shown : S → A) (back : PlainHeard → PlainReader → A) (refusing : Reader → ℕ → S) (r : PlainReader)
+    {S A : Type 0} (shown : S → A) (back : PlainHeard → PlainReader → A) (refusing : Reader → Refusal → S) (r : PlainReader)
     (as_shown : (n : Refusal) → shown (refusing (reader_given r) n) ≡ back (heard_shown (Unheard n)) (reader_shown (reader_given r))) where
   -- a refusal, the reader as it was
-  abbrev unheard : ℕ → A
+  abbrev unheard : Refusal → A
   unheard n = back (heard_shown (Unheard n)) r
 
   pub turned_away :
-      (none : Bool) → none ≡ no_ways r.ways → none ≡ true → (given : Reader) (k : ℕ) (heard : PlainHeard) (answered : A) → given ≡ reader_given r
+      (none : Bool) → none ≡ no_ways r.ways → none ≡ true → (given : Reader) (k : Refusal) (heard : PlainHeard) (answered : A) → given ≡ reader_given r
       → k ≡ after_reader given → heard ≡ heard_shown (Unheard k) → back heard r ≡ answer unheard (reader_rows r) answered
   turned_away none asked e given k heard answered from is told =
       ap (λ h. back h r) told
@@ -41,9 +41,9 @@ module _
       no_ways r.ways ≡ false → (rows : List Cause) (accepted : S)
       → shown (answer (refusing (reader_given r)) rows accepted) ≡ answer unheard rows (shown accepted)
   its_own within rows accepted =
-      let same : (n : ℕ) → shown (refusing (reader_given r) n) ≡ unheard n =
+      let same : (n : Refusal) → shown (refusing (reader_given r) n) ≡ unheard n =
       λ n. as_shown n ∙ ap (back (heard_shown (Unheard n))) (reader_back r within) in
-      carried shown (refusing (reader_given r)) accepted rows ∙ ap (λ (f : ℕ → A). answer f rows (shown accepted)) (λ i n. same n i)
+      carried shown (refusing (reader_given r)) accepted rows ∙ ap (λ (f : Refusal → A). answer f rows (shown accepted)) (λ i n. same n i)
 
   pub answered :
       (none : Bool) → none ≡ no_ways r.ways → none ≡ false → (rest rows : List Cause) → rows ≡ reader_refusals (reader_given r) ++ rest → (accepted : S) (a : A)

@@ -7,6 +7,8 @@ use mathlib.Core.List.{List, [], ◌∷◌, ◌++◌}
 use lib.Dec.{eqb}
 use lib.ListN.{take}
 use borrow.Author.Tests.{eqb-true}
+use Rattle.refusals.proofs.Same.{same-true}
+use Rattle.refusals.specs.Table.{same_refusal}
 use Rattle.refusals.specs.declared.types.Refusal.{Refusal}
 use Rattle.refusals.specs.declared.types.Refusal.TheVariants.{ElementTooHigh}
 use Rattle.refusals.specs.Answer.{Cause, ◌when◌, answer}
@@ -19,7 +21,7 @@ module _ {A : Type 0} (refused : Refusal → A) where
       (front back : List Cause) (accepted : A)
       → answer refused (front ++ back) accepted ≡ answer refused front (answer refused back accepted)
   in_two [] back accepted = refl
-  in_two (row ∷ front) back accepted = ap (cond row.applies (refused row.number)) (in_two front back accepted)
+  in_two (row ∷ front) back accepted = ap (cond row.applies (refused row.refusal)) (in_two front back accepted)
 
   -- the same rows asked twice
   twice : (rows : List Cause) (accepted : A) → answer refused rows (answer refused rows accepted) ≡ answer refused rows accepted
@@ -28,18 +30,18 @@ module _ {A : Type 0} (refused : Refusal → A) where
     where
       go :
           (t : Bool) → answer refused rows (answer refused rows accepted) ≡ answer refused rows accepted
-          → cond t (refused row.number) (answer refused rows (cond t (refused row.number) (answer refused rows accepted)))
-          ≡ cond t (refused row.number) (answer refused rows accepted)
+          → cond t (refused row.refusal) (answer refused rows (cond t (refused row.refusal) (answer refused rows accepted)))
+          ≡ cond t (refused row.refusal) (answer refused rows accepted)
       go true rest = refl
       go false rest = rest
 
   pub unnamed :
-      (before : List Cause) (none : Bool) (answered : A) (k : ℕ) → none ≡ true → k ≡ answer (λ (n : ℕ). n) before ElementTooHigh
+      (before : List Cause) (none : Bool) (answered : A) (k : Refusal) → none ≡ true → k ≡ answer (λ (r : Refusal). r) before ElementTooHigh
       → refused k ≡ answer refused (then_unnamed before none) answered
   unnamed before none answered k e is =
       rw e
       (ap refused is
-      ∙ (carried refused (λ (n : ℕ). n) ElementTooHigh before
+      ∙ (carried refused (λ (r : Refusal). r) ElementTooHigh before
       ∙ sym (in_two before ((ElementTooHigh when true) ∷ []) answered)))
 
   -- then what the call would have answered is not asked
@@ -61,7 +63,7 @@ module _ {A : Type 0} (refused : Refusal → A) where
 abbrev pub with_three : ℕ → Bool → List Cause → List Cause
 with_three zero none [] = (ElementTooHigh when none) ∷ []
 with_three zero none (row ∷ rows) =
-    cond (eqb row.number ElementTooHigh) ((ElementTooHigh when (none || row.applies)) ∷ rows) ((ElementTooHigh when none) ∷ row ∷ rows)
+    cond (same_refusal row.refusal ElementTooHigh) ((ElementTooHigh when (none || row.applies)) ∷ rows) ((ElementTooHigh when none) ∷ row ∷ rows)
 with_three (suc n) none [] = (ElementTooHigh when none) ∷ []
 with_three (suc n) none (row ∷ rows) = row ∷ with_three n none rows
 
@@ -71,16 +73,16 @@ module _ {A : Type 0} (refused : Refusal → A) (none : Bool) (accepted : A) whe
       (n : ℕ) (rows : List Cause)
       → answer refused (then_unnamed (take n rows) none) (answer refused rows accepted) ≡ answer refused (with_three n none rows) accepted
   one_list zero [] = refl
-  one_list zero (row ∷ rows) = go (eqb row.number ElementTooHigh) refl none row.applies
+  one_list zero (row ∷ rows) = go (same_refusal row.refusal ElementTooHigh) refl none row.applies
     where
       go :
-          (t : Bool) → eqb row.number ElementTooHigh ≡ t → (none applies : Bool)
-          → cond none (refused ElementTooHigh) (cond applies (refused row.number) (answer refused rows accepted))
+          (t : Bool) → same_refusal row.refusal ElementTooHigh ≡ t → (none applies : Bool)
+          → cond none (refused ElementTooHigh) (cond applies (refused row.refusal) (answer refused rows accepted))
           ≡ answer refused
-          (cond t ((ElementTooHigh when (none || applies)) ∷ rows) ((ElementTooHigh when none) ∷ (row.number when applies) ∷ rows))
+          (cond t ((ElementTooHigh when (none || applies)) ∷ rows) ((ElementTooHigh when none) ∷ (row.refusal when applies) ∷ rows))
           accepted
       go true e true applies = refl
-      go true e false true = ap refused (eqb-true row.number ElementTooHigh e)
+      go true e false true = ap refused (same-true row.refusal ElementTooHigh e)
       go true e false false = refl
       go false e none applies = refl
   one_list (suc n) [] = refl
@@ -88,8 +90,8 @@ module _ {A : Type 0} (refused : Refusal → A) (none : Bool) (accepted : A) whe
     where
       go :
           (t : Bool) → answer refused (then_unnamed (take n rows) none) (answer refused rows accepted) ≡ answer refused (with_three n none rows) accepted
-          → cond t (refused row.number)
-          (answer refused (then_unnamed (take n rows) none) (cond t (refused row.number) (answer refused rows accepted)))
-          ≡ cond t (refused row.number) (answer refused (with_three n none rows) accepted)
+          → cond t (refused row.refusal)
+          (answer refused (then_unnamed (take n rows) none) (cond t (refused row.refusal) (answer refused rows accepted)))
+          ≡ cond t (refused row.refusal) (answer refused (with_three n none rows) accepted)
       go true rest = refl
       go false rest = rest

@@ -35,11 +35,11 @@ module _ (mode interface : ℕ) (words : List ℕ) (none : Bool) (asked : none �
   another_length e other told =
       told
       ∙ ap packet_answer
-      (unnamed Err before (no_interface interface) (atc.read_of mode (interface_given interface) words) 1 (rw (← asked) e)
+      (unnamed Err before (no_interface interface) (atc.read_of mode (interface_given interface) words) WrongLength (rw (← asked) e)
       (rw (ne_eqb (length words) 23 other)))
 
   pub turned_away :
-      none ≡ true → length words ≡ 23 → (past : Bool) (k : ℕ) → past ≡ uncounted mode → k ≡ after_mode past → a ≡ packet_answer (Err k)
+      none ≡ true → length words ≡ 23 → (past : Bool) (k : Refusal) → past ≡ uncounted mode → k ≡ after_mode past → a ≡ packet_answer (Err k)
       → a ≡ atc_read mode interface words
   unfolding atc_read before
   turned_away e whole past k known is told =

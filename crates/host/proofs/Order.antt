@@ -167,8 +167,8 @@ open_one_list mode interface words =
     (ap packet_answer (one_list Err (no_interface interface) (Ok carried) 2 rows), refl)
 
 -- a reader: what it refuses, and ways that are none, in one list, and the reader as it was
-module _ {S A : Type 0} (shown : S → A) (back : PlainHeard → PlainReader → A) (refusing : Reader → ℕ → S) (r : PlainReader) where
-  abbrev unheard : ℕ → A
+module _ {S A : Type 0} (shown : S → A) (back : PlainHeard → PlainReader → A) (refusing : Reader → Refusal → S) (r : PlainReader) where
+  abbrev unheard : Refusal → A
   unheard n = back (heard_shown (Unheard n)) r
 
   fed_one_list :

@@ -19,7 +19,7 @@ module _ (before : List Cause) (none : Bool) (run : List ℕ) (written : Result 
   Wrote n out =
       (n ≡ written_code (answer Err (then_unnamed before none) written)) × (out ≡ answer (λ (_ : Refusal). run) (then_unnamed before none) left)
 
-  pub turned_away : none ≡ true → (k : ℕ) → k ≡ answer (λ (n : ℕ). n) before ElementTooHigh → Wrote k run
+  pub turned_away : none ≡ true → (k : Refusal) → k ≡ answer (λ (r : Refusal). r) before ElementTooHigh → Wrote (written_code (Err k)) run
   turned_away e k is = (ap written_code (unnamed Err before none written k e is), unnamed (λ (_ : Refusal). run) before none left k e is)
 
   pub answered :

@@ -1,5 +1,6 @@
 -- What reading and writing linear words, vertical interval lines and ancillary packets answer a host, and the lent run as a write leaves it.
 -- Assumes nothing.
+use Rattle.refusals.specs.declared.types.Refusal.{Refusal}
 use Rattle.refusals.specs.declared.types.Refusal.TheVariants.{WrongLength}
 use Rattle.std.specs.Prelude.{ℕ, not, ◌||◌, List, [], ◌∷◌, eqb, length, Err}
 use Rattle.refusals.specs.Answer.{Cause, ◌when◌, answer}

@@ -1,5 +1,6 @@
 -- What the calls that count answer a host.
 -- Assumes nothing.
+use Rattle.refusals.specs.declared.types.Refusal.{Refusal}
 use Rattle.std.specs.Prelude.{ℕ, List, [], ℤ, Err}
 use Rattle.refusals.specs.Answer.{Cause, answer}
 use Rattle.layout.specs.Flags.{flag_of}
@@ -19,7 +20,7 @@ abbrev pub count_rows : ℕ → ℕ → List Cause
 count_rows mode drop = then_unnamed (with_counting mode []) (no_flag drop)
 
 -- and else what the call answers, shown as a host has it
-abbrev pub counted : {A B : Type 0} → (A → B) → (ℕ → A) → ℕ → ℕ → A → B
+abbrev pub counted : {A B : Type 0} → (A → B) → (Refusal → A) → ℕ → ℕ → A → B
 counted shown refused mode drop answered = shown (answer refused (count_rows mode drop) answered)
 
 unfoldable pub number_for : ℕ → ℕ → PlainPicture → NumberAnswer

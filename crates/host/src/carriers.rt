@@ -28,7 +28,7 @@ pub extern "C" fn shx_ltc_write(
     let no_flag = has_flag_above_1(r);
     let no_make = is_no_make(make);
     if no_flag | no_make {
-        return after_mode(is_unknown(mode));
+        return plain::written(Err(after_mode(is_unknown(mode))));
     }
     let answer = ltc::write(mode, record_given(r), make_given(make), start, run);
     plain::written(answer)
@@ -48,7 +48,7 @@ pub extern "C" fn shx_vitc_write(mode: u8, r: PlainRecord, start: usize, run: &m
 {
     let no_flag = has_flag_above_1(r);
     if no_flag {
-        return after_mode(is_unknown(mode));
+        return plain::written(Err(after_mode(is_unknown(mode))));
     }
     let answer = vitc::write(mode, record_given(r), start, run);
     plain::written(answer)
@@ -84,7 +84,7 @@ pub extern "C" fn shx_atc_write(
     let no_flag = has_flag_above_1(r);
     let no_interface = is_no_interface(interface);
     if no_flag | no_interface {
-        return after_mode(is_uncounted(mode));
+        return plain::written(Err(after_mode(is_uncounted(mode))));
     }
     let named = interface_given(interface);
     let answer = atc::write(

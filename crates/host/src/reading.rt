@@ -24,7 +24,7 @@ pub extern "C" fn shx_step(reader: PlainReader, element: u8) -> StepAnswer
 {
     let given = reader_given(reader);
     if is_no_ways(reader.ways) {
-        let code = after_reader(given);
+        let code = u8::from(after_reader(given));
         return StepAnswer {
             heard: code_alone(code),
             reader,
@@ -40,7 +40,7 @@ pub extern "C" fn shx_block(reader: PlainReader, limit: usize, run: &[u8]) -> Bl
 {
     let given = reader_given(reader);
     if is_no_ways(reader.ways) {
-        let code = after_reader(given);
+        let code = u8::from(after_reader(given));
         return BlockAnswer {
             heard: code_alone(code),
             reader,

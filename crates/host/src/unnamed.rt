@@ -5,7 +5,7 @@ ghost use Rattle.host.specs.Unnamed.{after_mode, after_reader};
 use register::{Reader, is_unreached};
 use refusals::Refusal;
 
-pub fn after_mode(unknown: bool) -> u8
+pub fn after_mode(unknown: bool) -> Refusal
     ensures { result ≡ after_mode unknown }
 {
     if unknown {
@@ -14,7 +14,7 @@ pub fn after_mode(unknown: bool) -> u8
     Refusal::ElementTooHigh
 }
 
-pub fn after_reader(reader: Reader) -> u8
+pub fn after_reader(reader: Reader) -> Refusal
     ensures { result ≡ after_reader reader }
 {
     let unknown = modes::is_unknown(reader.mode);

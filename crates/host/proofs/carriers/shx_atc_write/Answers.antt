@@ -5,7 +5,7 @@ use mathlib.Core.Path.{◌≡◌, refl, ap, ◌∙◌}
 use mathlib.Core.Bool.{Bool, true, false, ◌||◌}
 use mathlib.Core.List.{List, []}
 use Rattle.refusals.specs.declared.types.Refusal.{Refusal}
-use Rattle.std.specs.Prelude.{Result}
+use Rattle.std.specs.Prelude.{Result, Err}
 use Rattle.record.specs.declared.types.Record.{Record}
 use Rattle.atc.specs.declared.types.Interface.{Interface}
 use Rattle.atc.specs.Calls as atc
@@ -21,12 +21,14 @@ use Rattle.host.proofs.carriers.shx_atc_write.Goals as goal
 
 module _ (mode : ℕ) (interface : ℕ) (c : PlainContents) (start : ℕ) (run : List ℕ) (odd unnamed : Bool) (asked : odd ≡ flag_above_1 c.«record») (tested : unnamed ≡ no_interface interface) where
   turned :
-      (odd || unnamed) ≡ true → (past : Bool) (k : ℕ) → past ≡ uncounted mode → k ≡ after_mode past
-      → (k ≡ atc_written mode interface c start run) × (run ≡ atc_run mode interface c start run)
+      (odd || unnamed) ≡ true → (past : Bool) (k : Refusal) (n : ℕ) → past ≡ uncounted mode → k ≡ after_mode past → n ≡ written_code (Err k)
+      → (n ≡ atc_written mode interface c start run) × (run ≡ atc_run mode interface c start run)
   unfolding atc_written atc_run
-  turned e past k known is =
+  turned e past k n known is told =
+      let as_told =
       turned_away (with_counting mode []) (flag_above_1 c.«record» || no_interface interface) run (atc.written_of mode (interface_given interface) (record_given c.«record») c.payload_type c.second start run) (atc.run_of mode (interface_given interface) (record_given c.«record») c.payload_type c.second start run)
-      (rw (← asked, ← tested) e) k (is ∙ ap after_mode known)
+      (rw (← asked, ← tested) e) k (is ∙ ap after_mode known) in
+      (told ∙ as_told.0, as_told.1)
 
   wrote :
       (odd || unnamed) ≡ false → (face : Interface) (given : Record) (w : Result Unit Refusal) (n : ℕ) (out : List ℕ) → face ≡ interface_given interface → given ≡ record_given c.«record»
@@ -42,7 +44,7 @@ module _ (mode : ℕ) (interface : ℕ) (c : PlainContents) (start : ℕ) (run :
       (as_told.0, kept ∙ as_told.1)
 
 pub returns-then-no_flag-no_interface : goal.returns-then-no_flag-no_interface
-returns-then-no_flag-no_interface c = turned _ _ _ _ _ _ _ c.has_flag_above_1-no_flag.ensures c.is_no_interface-no_interface.ensures (search rules) _ _ c.is_uncounted.ensures c.after_mode.ensures
+returns-then-no_flag-no_interface c = turned _ _ _ _ _ _ _ c.has_flag_above_1-no_flag.ensures c.is_no_interface-no_interface.ensures (search rules) _ _ _ c.is_uncounted.ensures c.after_mode.ensures c.written.ensures
 
 pub returns : goal.returns
-returns c = wrote _ _ _ _ _ _ _ c.has_flag_above_1-no_flag.ensures c.is_no_interface-no_interface.ensures (search rules) _ _ _ _ _ c.interface_given-named.ensures c.record_given.ensures c.write-answer.ensures c.written.ensures
+returns c = wrote _ _ _ _ _ _ _ c.has_flag_above_1-no_flag.ensures c.is_no_interface-no_interface.ensures (search rules) _ _ _ _ _ c.interface_given-named.ensures c.record_given.ensures c.write-answer.ensures c.written-2.ensures

@@ -5,7 +5,7 @@ use mathlib.Core.Path.{◌≡◌, refl, ap, ◌∙◌}
 use mathlib.Core.Bool.{Bool, true, false, ◌||◌}
 use mathlib.Core.List.{List, []}
 use Rattle.refusals.specs.declared.types.Refusal.{Refusal}
-use Rattle.std.specs.Prelude.{Result}
+use Rattle.std.specs.Prelude.{Result, Err}
 use Rattle.record.specs.declared.types.Record.{Record}
 use Rattle.polarity.specs.declared.types.Found.{Found}
 use Rattle.polarity.specs.Word.{word_of}
@@ -22,12 +22,14 @@ use Rattle.host.proofs.carriers.shx_ltc_write.Goals as goal
 
 module _ (mode : ℕ) (r : PlainRecord) (make : ℕ) (start : ℕ) (run : List ℕ) (odd unmade : Bool) (asked : odd ≡ flag_above_1 r) (tested : unmade ≡ no_make make) where
   turned :
-      (odd || unmade) ≡ true → (past : Bool) (k : ℕ) → past ≡ unknown mode → k ≡ after_mode past
-      → (k ≡ ltc_written mode r make start run) × (run ≡ ltc_run mode r make start run)
+      (odd || unmade) ≡ true → (past : Bool) (k : Refusal) (n : ℕ) → past ≡ unknown mode → k ≡ after_mode past → n ≡ written_code (Err k)
+      → (n ≡ ltc_written mode r make start run) × (run ≡ ltc_run mode r make start run)
   unfolding ltc_written ltc_run
-  turned e past k known is =
+  turned e past k n known is told =
+      let as_told =
       turned_away (with_mode mode []) (flag_above_1 r || no_make make) run (ltc.written_of mode (record_given r) start run) (ltc.run_of mode (record_given r) (make_given make) start run)
-      (rw (← asked, ← tested) e) k (is ∙ ap after_mode known)
+      (rw (← asked, ← tested) e) k (is ∙ ap after_mode known) in
+      (told ∙ as_told.0, as_told.1)
 
   wrote :
       (odd || unmade) ≡ false → (given : Record) (made : Found) (w : Result Unit Refusal) (n : ℕ) (out : List ℕ) → given ≡ record_given r → made ≡ make_given make
@@ -43,7 +45,7 @@ module _ (mode : ℕ) (r : PlainRecord) (make : ℕ) (start : ℕ) (run : List �
       (as_told.0, kept ∙ as_told.1)
 
 pub returns-then-no_flag-no_make : goal.returns-then-no_flag-no_make
-returns-then-no_flag-no_make c = turned _ _ _ _ _ _ _ c.has_flag_above_1-no_flag.ensures c.is_no_make-no_make.ensures (search rules) _ _ c.is_unknown.ensures c.after_mode.ensures
+returns-then-no_flag-no_make c = turned _ _ _ _ _ _ _ c.has_flag_above_1-no_flag.ensures c.is_no_make-no_make.ensures (search rules) _ _ _ c.is_unknown.ensures c.after_mode.ensures c.written.ensures
 
 pub returns : goal.returns
-returns c = wrote _ _ _ _ _ _ _ c.has_flag_above_1-no_flag.ensures c.is_no_make-no_make.ensures (search rules) _ _ _ _ _ c.record_given.ensures c.make_given.ensures c.write-answer.ensures c.written.ensures
+returns c = wrote _ _ _ _ _ _ _ c.has_flag_above_1-no_flag.ensures c.is_no_make-no_make.ensures (search rules) _ _ _ _ _ c.record_given.ensures c.make_given.ensures c.write-answer.ensures c.written-2.ensures

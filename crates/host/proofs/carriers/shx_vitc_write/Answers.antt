@@ -5,7 +5,7 @@ use mathlib.Core.Path.{◌≡◌, refl, ap, ◌∙◌}
 use mathlib.Core.Bool.{Bool, true, false}
 use mathlib.Core.List.{List, []}
 use Rattle.refusals.specs.declared.types.Refusal.{Refusal}
-use Rattle.std.specs.Prelude.{Result}
+use Rattle.std.specs.Prelude.{Result, Err}
 use Rattle.record.specs.declared.types.Record.{Record}
 use Rattle.vitc.specs.Calls as vitc
 use Rattle.plain.specs.declared.types.PlainRecord.{PlainRecord}
@@ -20,12 +20,14 @@ use Rattle.host.proofs.carriers.shx_vitc_write.Goals as goal
 
 module _ (mode : ℕ) (r : PlainRecord) (start : ℕ) (run : List ℕ) (odd : Bool) (asked : odd ≡ flag_above_1 r) where
   turned :
-      odd ≡ true → (past : Bool) (k : ℕ) → past ≡ unknown mode → k ≡ after_mode past
-      → (k ≡ vitc_written mode r start run) × (run ≡ vitc_run mode r start run)
+      odd ≡ true → (past : Bool) (k : Refusal) (n : ℕ) → past ≡ unknown mode → k ≡ after_mode past → n ≡ written_code (Err k)
+      → (n ≡ vitc_written mode r start run) × (run ≡ vitc_run mode r start run)
   unfolding vitc_written vitc_run
-  turned e past k known is =
+  turned e past k n known is told =
+      let as_told =
       turned_away (with_mode mode []) (flag_above_1 r) run (vitc.written_of mode (record_given r) start run) (vitc.run_of mode (record_given r) start run)
-      (rw (← asked) e) k (is ∙ ap after_mode known)
+      (rw (← asked) e) k (is ∙ ap after_mode known) in
+      (told ∙ as_told.0, as_told.1)
 
   wrote :
       odd ≡ false → (given : Record) (w : Result Unit Refusal) (n : ℕ) (out : List ℕ) → given ≡ record_given r
@@ -41,7 +43,7 @@ module _ (mode : ℕ) (r : PlainRecord) (start : ℕ) (run : List ℕ) (odd : Bo
       (as_told.0, kept ∙ as_told.1)
 
 pub returns-then-no_flag : goal.returns-then-no_flag
-returns-then-no_flag c = turned _ _ _ _ _ c.has_flag_above_1-no_flag.ensures (search rules) _ _ c.is_unknown.ensures c.after_mode.ensures
+returns-then-no_flag c = turned _ _ _ _ _ c.has_flag_above_1-no_flag.ensures (search rules) _ _ _ c.is_unknown.ensures c.after_mode.ensures c.written.ensures
 
 pub returns : goal.returns
-returns c = wrote _ _ _ _ _ c.has_flag_above_1-no_flag.ensures (search rules) _ _ _ _ c.record_given.ensures c.write-answer.ensures c.written.ensures
+returns c = wrote _ _ _ _ _ c.has_flag_above_1-no_flag.ensures (search rules) _ _ _ _ c.record_given.ensures c.write-answer.ensures c.written-2.ensures

@@ -23,7 +23,7 @@ use Rattle.host.proofs.counting.shx_add.Goals as goal
 
 module _ (mode drop : ℕ) (p : PlainPicture) (z : ℤ) (none : Bool) (tested : none ≡ no_flag drop) where
   turned_away :
-      none ≡ true → (past : Bool) (k : ℕ) (a : PictureAnswer) → past ≡ uncounted mode → k ≡ after_mode past → a ≡ picture_answer (Err k)
+      none ≡ true → (past : Bool) (k : Refusal) (a : PictureAnswer) → past ≡ uncounted mode → k ≡ after_mode past → a ≡ picture_answer (Err k)
       → a ≡ add_for mode drop p z
   unfolding add_for
   turned_away e past k a asked is told =

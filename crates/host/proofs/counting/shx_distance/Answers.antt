@@ -21,7 +21,7 @@ use Rattle.host.proofs.counting.shx_distance.Goals as goal
 
 module _ (mode drop : ℕ) (from to : PlainPicture) (none : Bool) (tested : none ≡ no_flag drop) where
   turned_away :
-      none ≡ true → (past : Bool) (k : ℕ) (a : DistanceAnswer) → past ≡ uncounted mode → k ≡ after_mode past → a ≡ distance_answer (Err k)
+      none ≡ true → (past : Bool) (k : Refusal) (a : DistanceAnswer) → past ≡ uncounted mode → k ≡ after_mode past → a ≡ distance_answer (Err k)
       → a ≡ distance_for mode drop from to
   unfolding distance_for
   turned_away e past k a asked is told =

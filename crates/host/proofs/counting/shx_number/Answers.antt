@@ -22,7 +22,7 @@ use Rattle.host.proofs.counting.shx_number.Goals as goal
 
 module _ (mode drop : ℕ) (p : PlainPicture) (none : Bool) (tested : none ≡ no_flag drop) where
   turned_away :
-      none ≡ true → (past : Bool) (k : ℕ) (a : NumberAnswer) → past ≡ uncounted mode → k ≡ after_mode past → a ≡ number_answer (Err k)
+      none ≡ true → (past : Bool) (k : Refusal) (a : NumberAnswer) → past ≡ uncounted mode → k ≡ after_mode past → a ≡ number_answer (Err k)
       → a ≡ number_for mode drop p
   unfolding number_for
   turned_away e past k a asked is told =

@@ -22,7 +22,7 @@ use Rattle.host.proofs.counting.shx_number_in_second.Goals as goal
 
 module _ (mode drop : ℕ) (p : PlainPicture) (none : Bool) (tested : none ≡ no_flag drop) where
   turned_away :
-      none ≡ true → (past : Bool) (k : ℕ) (a : SecondAnswer) → past ≡ uncounted mode → k ≡ after_mode past → a ≡ second_answer (Err k)
+      none ≡ true → (past : Bool) (k : Refusal) (a : SecondAnswer) → past ≡ uncounted mode → k ≡ after_mode past → a ≡ second_answer (Err k)
       → a ≡ in_second_for mode drop p
   unfolding in_second_for
   turned_away e past k a asked is told =

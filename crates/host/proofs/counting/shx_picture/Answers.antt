@@ -20,7 +20,7 @@ use Rattle.host.proofs.counting.shx_picture.Goals as goal
 
 module _ (mode drop : ℕ) (number : ℕ) (none : Bool) (tested : none ≡ no_flag drop) where
   turned_away :
-      none ≡ true → (past : Bool) (k : ℕ) (a : PictureAnswer) → past ≡ uncounted mode → k ≡ after_mode past → a ≡ picture_answer (Err k)
+      none ≡ true → (past : Bool) (k : Refusal) (a : PictureAnswer) → past ≡ uncounted mode → k ≡ after_mode past → a ≡ picture_answer (Err k)
       → a ≡ picture_for mode drop number
   unfolding picture_for
   turned_away e past k a asked is told =

@@ -5,6 +5,8 @@ use mathlib.Core.Path.{◌≡◌, refl, ap, ◌∙◌}
 use mathlib.Core.Bool.{Bool, true, false}
 use mathlib.Core.List.{[], ◌∷◌}
 use lib.Dec.{ltb}
+use Rattle.refusals.specs.Table.{number}
+use Rattle.refusals.specs.declared.types.Refusal.{Refusal}
 use Rattle.refusals.specs.declared.types.Refusal.TheVariants.{ElementTooHigh}
 use Rattle.refusals.specs.Answer.{◌when◌}
 use Rattle.register.specs.declared.types.Reader.{Reader}
@@ -15,7 +17,7 @@ use Rattle.plain.specs.declared.types.PlainReader.{PlainReader}
 use Rattle.plain.specs.declared.types.PlainHeard.{PlainHeard}
 use Rattle.plain.specs.declared.types.StepAnswer.{StepAnswer}
 use Rattle.plain.specs.Given.{reader_given, no_ways}
-use Rattle.plain.specs.Answers.{heard_shown, step_with, step_answer}
+use Rattle.plain.specs.Answers.{heard_shown, step_with, step_answer, heard_with, no_record}
 use Rattle.host.specs.Unnamed.{after_reader}
 use Rattle.host.specs.Reading.{step_for}
 use Rattle.host.proofs.Fed.{turned_away, answered}
@@ -23,11 +25,12 @@ use Rattle.host.proofs.reading.shx_step.Goals as goal
 
 module _ (r : PlainReader) (element : ℕ) (none : Bool) (tested : none ≡ no_ways r.ways) where
   turned :
-      none ≡ true → (given : Reader) (k : ℕ) (heard : PlainHeard) → given ≡ reader_given r → k ≡ after_reader given → heard ≡ heard_shown (Unheard k)
+      none ≡ true → (given : Reader) (k : Refusal) (code : ℕ) (heard : PlainHeard) → given ≡ reader_given r → k ≡ after_reader given → code ≡ number k
+      → heard ≡ heard_with code 0 0 no_record
       → step_with heard r ≡ step_for r element
   unfolding step_for
-  turned e given k heard from is told =
-      turned_away step_answer step_with (λ reader n. after reader (Unheard n)) r (λ n. refl) none tested e given k heard (step_answer (stepped_of (reader_given r) element)) from is told
+  turned e given k code heard from is by told =
+      turned_away step_answer step_with (λ reader n. after reader (Unheard n)) r (λ n. refl) none tested e given k heard (step_answer (stepped_of (reader_given r) element)) from is (told ∙ rw by)
 
   fed :
       none ≡ false → (given : Reader) (s : Stepped) (a : StepAnswer) → given ≡ reader_given r → s ≡ stepped_of given element → a ≡ step_answer s → a ≡ step_for r element

@@ -2,6 +2,7 @@
 -- Assumes nothing.
 use mathlib.Core.Path.{◌≡◌}
 use mathlib.Core.Bool.{Bool, true, false}
+use Rattle.refusals.specs.declared.types.Refusal.TheVariants.{UnknownMode, ElementTooHigh, StateNotReached}
 use Rattle.register.specs.declared.types.Reader.{Reader}
 use Rattle.register.specs.Held.{unreached}
 use Rattle.modes.specs.Modes.{unknown}
@@ -9,14 +10,14 @@ use Rattle.host.specs.Unnamed.{after_reader}
 use Rattle.host.proofs.unnamed.after_reader.Goals as goal
 
 module _ (r : Reader) (past : Bool) (asked : past ≡ unknown r.mode) where
-  no_mode : past ≡ true → 2 ≡ after_reader r
+  no_mode : past ≡ true → UnknownMode ≡ after_reader r
   no_mode e = rw (← asked, e)
 
   module _ (known : past ≡ false) (astray : Bool) (tested : astray ≡ unreached r) where
-    no_state : astray ≡ true → 13 ≡ after_reader r
+    no_state : astray ≡ true → StateNotReached ≡ after_reader r
     no_state e = rw (← asked, known, ← tested, e)
 
-    sound : astray ≡ false → 3 ≡ after_reader r
+    sound : astray ≡ false → ElementTooHigh ≡ after_reader r
     sound e = rw (← asked, known, ← tested, e)
 
 pub returns-then-unknown : goal.returns-then-unknown
