@@ -69,10 +69,9 @@ after_length words size exactly bound = (
 
 -- a list that begins with 2 gives it exactly where nothing is counted
 two_first :
-    {A : Type 0} (refused : Refusal → A) (accepted : A) (number_of : A → ℕ) → ((k : ℕ) → number_of (refused k) ≡ k) → number_of accepted ≡ 0 → (mode : ℕ) (rows : List Cause)
-    → in_order the_order (with_counting mode rows) ≡ true → (answer refused (with_counting mode rows) accepted ≡ refused UnknownMode) ↔ (11 ≤ mode)
-two_first refused accepted number_of tells nothing mode rows follows =
-    first_of (given_exactly refused accepted number_of tells nothing UnknownMode (omega arith) (with_counting mode rows) follows) (uncounted_from mode)
+    {A : Type 0} (accepted : A) (mode : ℕ) (rows : List Cause)
+    → in_order the_order (with_counting mode rows) ≡ true → (answer Err (with_counting mode rows) (Ok accepted) ≡ Err UnknownMode) ↔ (11 ≤ mode)
+two_first accepted mode rows follows = first_of (given_exactly accepted UnknownMode (with_counting mode rows) follows) (uncounted_from mode)
 
 -- the six calls that count
 module _ (mode : ℕ) (drop : Flag) where
@@ -94,34 +93,34 @@ module _ (mode : ℕ) (drop : Flag) where
   pub number_refused_by_2 : (p : Picture) → (number_in mode drop p ≡ Err UnknownMode) ↔ (11 ≤ mode)
   number_refused_by_2 p =
       rw (counts.number_rows mode drop p)
-      (two_first Err (Ok (record { 0 = number p })) of_numbered (λ k. refl) refl mode (rows p) (counts.picture_rows_in_order mode drop p))
+      (two_first (record { 0 = number p }) mode (rows p) (counts.picture_rows_in_order mode drop p))
 
   pub in_second_refused_by_2 : (p : Picture) → (in_second_in mode drop p ≡ Err UnknownMode) ↔ (11 ≤ mode)
   in_second_refused_by_2 p =
       rw (counts.in_second_rows mode drop p)
-      (two_first Err (Ok (record { 0 = number_in_second (pictures_at mode) p })) of_in_second (λ k. refl) refl mode (rows p)
+      (two_first (record { 0 = number_in_second (pictures_at mode) p }) mode (rows p)
       (counts.picture_rows_in_order mode drop p))
 
   pub picture_refused_by_2 : (n : DayFrame) → (picture_in mode drop n ≡ Err UnknownMode) ↔ (11 ≤ mode)
   picture_refused_by_2 n =
       rw (counts.picture_rows mode drop n)
-      (two_first Err (Ok (numbered n.0)) of_pictured (λ k. refl) refl mode (number_refusals rate (pictures_at mode) drop n.0)
+      (two_first (numbered n.0) mode (number_refusals rate (pictures_at mode) drop n.0)
       (counts.number_rows_in_order mode drop n.0))
 
   pub fields_refused_by_2 : (p : Picture) → (fields_in mode drop p ≡ Err UnknownMode) ↔ (11 ≤ mode)
   fields_refused_by_2 p =
-      rw (counts.fields_rows mode drop p) (two_first Err (Ok p) of_pictured (λ k. refl) refl mode (rows p) (counts.picture_rows_in_order mode drop p))
+      rw (counts.fields_rows mode drop p) (two_first p mode (rows p) (counts.picture_rows_in_order mode drop p))
 
   pub span_refused_by_2 : (from to : Picture) → (span_in mode drop from to ≡ Err UnknownMode) ↔ (11 ≤ mode)
   span_refused_by_2 from to =
       rw (counts.span_rows mode drop from to)
-      (two_first Err (Ok (distance_of day (number from) (number to))) of_span (λ k. refl) refl mode (two_refusals rate (pictures_at mode) drop from to)
+      (two_first (distance_of day (number from) (number to)) mode (two_refusals rate (pictures_at mode) drop from to)
       (counts.two_rows_in_order mode drop from to))
 
   pub plus_refused_by_2 : (p : Picture) (z : ℤ) → (plus_in mode drop p z ≡ Err UnknownMode) ↔ (11 ≤ mode)
   plus_refused_by_2 p z =
       rw (counts.plus_rows mode drop p z)
-      (two_first Err (Ok (numbered (sum_of day (number p) z))) of_pictured (λ k. refl) refl mode (rows p) (counts.picture_rows_in_order mode drop p))
+      (two_first (numbered (sum_of day (number p) z)) mode (rows p) (counts.picture_rows_in_order mode drop p))
 
 -- words, lines and packets, written and read
 module _ (mode : ℕ) (r : Record) (start : ℕ) (run : List ℕ) where

@@ -9,6 +9,7 @@ use mathlib.Core.Logic.{◌↔◌, ◌⊎◌}
 use native.Mathlib.Omega.{arith}
 use lib.IntN.{ℤ}
 use borrow.Author.Tests.{leb-true, le-leb}
+use Rattle.refusals.proofs.Results.{accepted_so, refused_alike}
 use Rattle.refusals.specs.declared.types.Refusal.TheVariants.{NumberPastTheDay, OutsideTheClock, SkippedAddress, UnusedBitSet}
 use Rattle.std.specs.Prelude.{Err, Ok}
 use Rattle.refusals.specs.declared.types.Refusal.{Refusal}
@@ -20,11 +21,9 @@ use Rattle.rates.specs.declared.types.Flag.TheVariants.{Yes}
 use Rattle.rates.specs.Rates.{is_yes, frames_in_second}
 use Rattle.clock.specs.declared.types.DayFrame.{DayFrame}
 use Rattle.round.specs.Round.{distance_of, sum_of}
-use Rattle.midnight.proofs.Answers.{no_number}
 use Rattle.pictures.specs.declared.types.Picture.{Picture}
 use Rattle.pictures.specs.Pictures.{pictures_in_day, picture_number, picture_at}
 use Rattle.pictures.specs.Calls.{picture_refusals, two_refusals, number_refusals, number_of}
-use Rattle.pictures.proofs.Answers.{pictured_as}
 use Rattle.pictures.proofs.Moves as moves
 use Rattle.modes.specs.Modes.{uncounted, rate_at, pictures_at, with_counting}
 use Rattle.modes.specs.Calls.{number_in, picture_in, fields_in, span_in, plus_in}
@@ -93,30 +92,26 @@ module _ (mode : ℕ) (drop : Flag) where
     -- clock fields are refused as the picture's number is, and make the picture where it has one
     pub fields_refused_alike : (k : Refusal) → number_in mode drop p ≡ Err k → fields_in mode drop p ≡ Err k
     fields_refused_alike k e =
-        counts.fields_rows mode drop p
-        ∙ sym (carried (pictured_as p) Err (Ok number) rows)
-        ∙ ap (pictured_as p) (sym (counts.number_rows mode drop p) ∙ e)
+        counts.fields_rows mode drop p ∙ refused_alike number p rows k (sym (counts.number_rows mode drop p) ∙ e)
 
     pub fields_as_numbers : (n : DayFrame) → number_in mode drop p ≡ Ok n → fields_in mode drop p ≡ Ok p
     fields_as_numbers n e =
         counts.fields_rows mode drop p
-        ∙ otherwise_accepted Err (Ok p) rows (accepted_as Err (Ok number) rows (Ok n) no_number (sym (counts.number_rows mode drop p) ∙ e)).0
+        ∙ otherwise_accepted Err (Ok p) rows (accepted_so rows (sym (counts.number_rows mode drop p) ∙ e)).0
 
     -- a sum is refused as the picture's number is, and is else the picture of the sum of numbers
     pub sum_refused_alike : (z : ℤ) (k : Refusal) → number_in mode drop p ≡ Err k → plus_in mode drop p z ≡ Err k
     sum_refused_alike z k e =
         let day = pictures_in_day (rate_at mode) (pictures_at mode) (is_yes drop) in
         let sum = picture_at (frames_in_second (rate_at mode)) (pictures_at mode) (is_yes drop) (sum_of day number.0 z) in
-        counts.plus_rows mode drop p z
-        ∙ sym (carried (pictured_as sum) Err (Ok number) rows)
-        ∙ ap (pictured_as sum) (sym (counts.number_rows mode drop p) ∙ e)
+        counts.plus_rows mode drop p z ∙ refused_alike number sum rows k (sym (counts.number_rows mode drop p) ∙ e)
 
     pub sum_by_numbers :
         (n : DayFrame) (z : ℤ) → number_in mode drop p ≡ Ok n
         → plus_in mode drop p z ≡ picture_in mode drop (record { 0 = sum_of (pictures_in_day (rate_at mode) (pictures_at mode) (is_yes drop)) n.0 z })
     unfolding number_in
     sum_by_numbers n z e =
-        let at = answered Err mode (λ rate pictures. number_of rate pictures drop p) (Ok n) no_number e in
+        let at = answered mode (λ rate pictures. number_of rate pictures drop p) n e in
         let sum : DayFrame = record { 0 = sum_of (pictures_in_day (rate_at mode) (pictures_at mode) (is_yes drop)) n.0 z } in
         plus_by_row mode drop p z at.0 ∙ moves.sum_is (rate_at mode) (pictures_at mode) drop (some_picture mode) p n z at.1 ∙ sym (picture_by_row mode drop sum at.0)
 
@@ -126,8 +121,8 @@ module _ (mode : ℕ) (drop : Flag) where
       → span_in mode drop from to ≡ Ok (distance_of (pictures_in_day (rate_at mode) (pictures_at mode) (is_yes drop)) m.0 n.0)
   unfolding number_in
   distance_by_numbers from to m n e f =
-      let first = answered Err mode (λ rate pictures. number_of rate pictures drop from) (Ok m) no_number e in
-      let second = answered Err mode (λ rate pictures. number_of rate pictures drop to) (Ok n) no_number f in
+      let first = answered mode (λ rate pictures. number_of rate pictures drop from) m e in
+      let second = answered mode (λ rate pictures. number_of rate pictures drop to) n f in
       span_by_row mode drop from to first.0 ∙ moves.distance_is (rate_at mode) (pictures_at mode) drop (some_picture mode) from to m n first.1 second.1
 
   -- and it is refused where one of the two is: by 8 where that applies to either, then by 9, then by 10

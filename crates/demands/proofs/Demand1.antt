@@ -6,10 +6,11 @@ use Prim.Native.Nat.{ℕ, ◌+◌, ◌≤◌}
 use mathlib.Core.List.{List}
 use mathlib.Core.Logic.{inl, inr, ⊎_elim}
 use lib.ListN.{length}
+use Rattle.refusals.proofs.Results.{not_accepted}
 use Rattle.std.specs.Prelude.{Err, Ok}
 use Rattle.refusals.specs.declared.types.Refusal.TheVariants.{NoRoom}
 use Rattle.refusals.proofs.ByNumber.{clear_at}
-use Rattle.runs.proofs.Outcomes.{unchanged, apart, done_or_refused, done_clear, has_room}
+use Rattle.runs.proofs.Outcomes.{unchanged, done_or_refused, done_clear, has_room}
 use Rattle.record.specs.declared.types.Record.{Record}
 use Rattle.polarity.specs.declared.types.Found.{Found}
 use Rattle.polarity.specs.Word.{word_of}
@@ -38,16 +39,16 @@ ancillary_done_or_refused interface mode c start run byte =
 -- "A write that is turned away changes no element lent to it." Shut out: a write that stores before it looks.
 pub linear_unchanged : (make : Found) → Unchanged (linear make)
 unfolding ltc.written_of ltc.run_of
-linear_unchanged make mode r start run = unchanged Err (Ok tt) apart (ltc.written_rows mode r start run) start (word_of mode r make) run
+linear_unchanged make mode r start run = unchanged Err (Ok tt) not_accepted (ltc.written_rows mode r start run) start (word_of mode r make) run
 
 pub interval_unchanged : Unchanged interval
 unfolding vitc.written_of
-interval_unchanged mode r start run = unchanged Err (Ok tt) apart (vitc.written_rows mode r start run) start (vitc.line_of mode r) run
+interval_unchanged mode r start run = unchanged Err (Ok tt) not_accepted (vitc.written_rows mode r start run) start (vitc.line_of mode r) run
 
 pub ancillary_unchanged : (interface : Interface) → Unchanged (ancillary interface)
 unfolding atc.written_of atc.run_of
 ancillary_unchanged interface mode c start run =
-    unchanged Err (Ok tt) apart (atc.written_rows mode interface c.«record» c.payload_type c.second start run) start
+    unchanged Err (Ok tt) not_accepted (atc.written_rows mode interface c.«record» c.payload_type c.second start run) start
     (atc.packet_of mode c.«record» c.payload_type c.second) run
 
 -- and it is turned away where there is no room

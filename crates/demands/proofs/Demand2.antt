@@ -37,7 +37,7 @@ use Rattle.modes.proofs.Counted.{number_by_row, picture_by_row}
 use Rattle.trips.proofs.Numbers.{one_to_one}
 use Rattle.polarity.specs.declared.types.Found.{Found}
 use Rattle.polarity.specs.declared.types.Found.TheVariants.{Corrected, Uncorrected}
-use Rattle.polarity.specs.Word.{reading, sync_word, word_with, odd_zeros, polarity_bit, found_in, word_of}
+use Rattle.polarity.specs.Word.{reading as a_reading, sync_word, word_with, odd_zeros, polarity_bit, found_in, word_of}
 use Rattle.ltc.specs.Calls.{read_of}
 use Rattle.trips.proofs.Polarity.{odd_found}
 use Rattle.trips.proofs.Five.{five_exactly}
@@ -170,7 +170,7 @@ unfolding word_of
 found_as_made Corrected mode r ok can = ltc.corrected_found mode r ok
 found_as_made Uncorrected mode r ok odd = ap (λ (b : Bool). cond b Uncorrected Corrected) odd
 
-made_as_found : (make : Found) (mode : ℕ) (r : Record) (word : List ℕ) → read_of mode word ≡ Ok (reading r make) → FoundAsMade make mode r
+made_as_found : (make : Found) (mode : ℕ) (r : Record) (word : List ℕ) → read_of mode word ≡ Ok (a_reading r make) → FoundAsMade make mode r
 unfolding word_of
 made_as_found Corrected mode r word reads = tt
 made_as_found Uncorrected mode r word reads = rw (ltc.written_of_read mode r Uncorrected word reads).1 (odd_found word (ltc.read_clear mode r Uncorrected word reads).2)
@@ -284,7 +284,7 @@ pub linear_reads_back :
     → let left = take 80 (drop start ((linear make).leaves mode r start run)) in (linear (found_in left)).Reads mode left r
 linear_reads_back make mode r start run done =
     let reads = ltc.done_reads mode r make start run done in
-    reads ∙ ap (OkWord r) (sym (ltc.read_clear mode r _ _ reads).2)
+    reads ∙ ap (λ (f : Found). Ok (a_reading r f)) (sym (ltc.read_clear mode r _ _ reads).2)
 
 -- Some elements read as a content exactly where it is taken; as a record and what was found, where a word of it can be found so: as uncorrected, where its
 -- word with the polarity bit 0 has odd zeros. Shut out: a reader that refuses each word, or each uncorrected word; one that reports one fixed address; one that

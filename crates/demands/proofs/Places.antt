@@ -8,14 +8,14 @@ use mathlib.Core.Logic.{◌↔◌}
 use native.Mathlib.Omega.{arith}
 use lib.Dec.{ltb}
 use borrow.Author.Tests.{lt-ltb, le-leb}
+use Rattle.refusals.proofs.Results.{accepted_so}
 use Rattle.std.specs.Prelude.{Err, Ok}
-use Rattle.refusals.specs.declared.types.Refusal.TheVariants.{OutsideTheClock, SkippedAddress, UnknownMode, UnusedBitSet}
+use Rattle.refusals.specs.declared.types.Refusal.TheVariants.{OutsideTheClock, SkippedAddress, UnknownMode, UnusedBitSet, MarkSet}
 use Rattle.refusals.proofs.Answered.{neither, accepted_as}
 use Rattle.refusals.proofs.ByNumber.{clear_at}
 use Rattle.rates.specs.declared.types.Flag.{Flag}
 use Rattle.rates.specs.declared.types.Flag.TheVariants.{No}
 use Rattle.clock.specs.declared.types.DayFrame.{DayFrame}
-use Rattle.midnight.proofs.Answers.{no_number}
 use Rattle.pictures.specs.declared.types.Picture.{Picture}
 use Rattle.pictures.specs.Pictures.{picture}
 use Rattle.pictures.specs.Calls.{picture_refusals, number_of}
@@ -80,7 +80,7 @@ unfolding number_in number_of
 counted_place_refused_by_10 mode drop p n few stands other =
     let first = picture p.address 0 in
     let rows = with_counting mode (picture_refusals (rate_at mode) (pictures_at mode) drop first) in
-    let clear = (accepted_as Err _ rows (Ok n) no_number (sym (number_rows mode drop first) ∙ stands)).0 in
+    let clear = (accepted_so rows (sym (number_rows mode drop first) ∙ stands)).0 in
     let one = alone mode few in
     let eight = clear_at OutsideTheClock rows clear in
     let some : ltb 0 p.place ≡ true = lt-ltb 0 p.place (omega arith) in
@@ -102,7 +102,7 @@ differs other exactly stands shown = (
 
 pub linear_refused_by_11 :
     (make : Found) (mode : ℕ) (r : Record) (start : ℕ) (run : List ℕ)
-    → (linear make).Refuses mode r start run 11 ↔ (OnLines mode r × ((r.flags.mark ≡ No) × FirstPicture r → ⊥))
+    → (linear make).Refuses mode r start run MarkSet ↔ (OnLines mode r × ((r.flags.mark ≡ No) × FirstPicture r → ⊥))
 linear_refused_by_11 make mode r start run =
     differs (mark_or_second mode r) (eleven.linear_refused_by_11 mode r start run) (on_lines_exactly mode r) (λ ok. (there, back))
   where
@@ -116,14 +116,14 @@ linear_refused_by_11 make mode r start run =
 
 pub interval_refused_by_11 :
     (mode : ℕ) (r : Record) (start : ℕ) (run : List ℕ)
-    → interval.Refuses mode r start run 11 ↔ (OnLines mode r × (MarkSays mode r → ⊥))
+    → interval.Refuses mode r start run MarkSet ↔ (OnLines mode r × (MarkSays mode r → ⊥))
 interval_refused_by_11 mode r start run =
     differs (unshown mode ByMark r) (eleven.interval_refused_by_11 mode r start run) (on_lines_exactly mode r)
     (λ ok. mark_says_exactly mode r ok.1 ok.0)
 
 pub ancillary_refused_by_11 :
     (interface : Interface) (mode : ℕ) (c : Contents) (start : ℕ) (run : List ℕ)
-    → (ancillary interface).Refuses mode c start run 11
+    → (ancillary interface).Refuses mode c start run MarkSet
     ↔ ((Acceptable mode c.«record»
     × (PayloadType mode c.payload_type × (ClaimsImpossibleLine interface c.payload_type c.second → ⊥) × NamesMode mode c.second))
     × (PacketShows mode c.payload_type c.«record» → ⊥))

@@ -3,12 +3,12 @@
 use Prim.Native.Nat.{ℕ, ◌+◌, ◌*◌, ◌<◌}
 use mathlib.Core.Path.{◌≡◌}
 use mathlib.Core.Logic.{◌↔◌}
+use Rattle.refusals.proofs.Results.{refused_alike}
 use Rattle.std.specs.Prelude.{Err, Ok}
 use Rattle.refusals.specs.declared.types.Refusal.{Refusal}
 use Rattle.rates.specs.declared.types.Flag.{Flag}
 use Rattle.rates.specs.Rates.{frames_in_second}
 use Rattle.clock.specs.declared.types.DayFrame.{DayFrame}
-use Rattle.midnight.proofs.Answers.{no_number}
 use Rattle.pictures.specs.declared.types.Picture.{Picture}
 use Rattle.pictures.specs.declared.types.PictureInSecond.{PictureInSecond}
 use Rattle.pictures.specs.Pictures.{SameSecond}
@@ -25,15 +25,15 @@ use Rattle.modes.proofs.EachMode.{some_picture}
 module _ (mode : ℕ) (drop : Flag) where
   by_row_numbered : (p : Picture) (n : DayFrame) → number_in mode drop p ≡ Ok n → number_of (rate_at mode) (pictures_at mode) drop p ≡ Ok n
   unfolding number_in
-  by_row_numbered p n e = (answered Err mode (λ rate pictures. number_of rate pictures drop p) (Ok n) no_number e).1
+  by_row_numbered p n e = (answered mode (λ rate pictures. number_of rate pictures drop p) n e).1
 
   by_row_counted : (p : Picture) (s : PictureInSecond) → in_second_in mode drop p ≡ Ok s → in_second_of (rate_at mode) (pictures_at mode) drop p ≡ Ok s
   unfolding in_second_in
-  by_row_counted p s e = (answered Err mode (λ rate pictures. in_second_of rate pictures drop p) (Ok s) any.uncounted e).1
+  by_row_counted p s e = (answered mode (λ rate pictures. in_second_of rate pictures drop p) s e).1
 
   pub both_refused_alike : (p : Picture) (k : Refusal) → (number_in mode drop p ≡ Err k) ↔ (in_second_in mode drop p ≡ Err k)
   unfolding number_in number_of in_second_in in_second_of
-  both_refused_alike p k = any.alike (with_counting mode (picture_refusals (rate_at mode) (pictures_at mode) drop p)) _ _ k
+  both_refused_alike p k = let rows = with_counting mode (picture_refusals (rate_at mode) (pictures_at mode) drop p) in (refused_alike _ _ rows k, refused_alike _ _ rows k)
 
   pub within_a_second : (p : Picture) (s : PictureInSecond) → in_second_in mode drop p ≡ Ok s → s.0 < pictures_at mode * frames_in_second (rate_at mode)
   within_a_second p s e = any.within_its_second (rate_at mode) (pictures_at mode) drop (some_picture mode) p s (by_row_counted p s e)

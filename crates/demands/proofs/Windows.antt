@@ -98,12 +98,12 @@ module _ (mode : ℕ) (bits : List ℕ) where
     where
       turned : (also : Ways) → ways ≡ also → forward_in mode bits ≡ Nothing → (word : Result Word Refusal) → read_of mode (reverse bits) ≡ word → Window ways
       turned ForwardOnly hears none word is = neither (rw (none, hears))
-      turned Both hears none (Ok (reading r found)) is =
-          backward record { bits = reverse bits; says = r; found = found; accepted = is } refl hears (rw (none, hears, is))
+      turned Both hears none (Ok word) is =
+          backward record { bits = reverse bits; says = word.«record»; found = word.found; accepted = is } refl hears (rw (none, hears, is))
       turned Both hears none (Err n) is = neither (rw (none, hears, is))
 
       said : (word : Result Word Refusal) → read_of mode bits ≡ word → or_else (told word) (backward_in mode ways bits) ≡ told word
-      said (Ok (reading r found)) is = refl
+      said (Ok _) is = refl
       said (Err n) is = refl
 
       go : (t : Bool) → (eqb (length bits) 80 && same (drop 64 bits) sync_word) ≡ t → Window ways
@@ -118,10 +118,10 @@ kind Nothing = 0
 kind (Accepted report) = 1
 kind (Refused n) = 2
 
-number_in : Heard → ℕ
-number_in Nothing = 0
-number_in (Accepted report) = 0
-number_in (Refused n) = n
+refusal_in : Refusal → Heard → Refusal
+refusal_in other Nothing = other
+refusal_in other (Accepted report) = other
+refusal_in other (Refused n) = n
 
 report_in : Report → Heard → Report
 report_in other Nothing = other
@@ -135,15 +135,15 @@ runs_backward Backward = true
 -- an accepted word that is told is the word's own record, found so, and runs forward
 told_accepted : (word : Result Word Refusal) (r : Record) (found : Found) (way : Way) → told word ≡ Accepted (reporting r found way) → (word ≡ Ok (reading r found)) × (way ≡ Forward)
 unfolding kind report_in
-told_accepted (Ok (reading held seen)) r found way e =
-    let same : reporting held seen Forward ≡ reporting r found way = ap (report_in (reporting r found way)) e in
-    (ap₂ OkWord (ap (λ (report : Report). report.«record») same) (ap (λ (report : Report). report.found) same), sym (ap (λ (report : Report). report.way) same))
+told_accepted (Ok word) r found way e =
+    let same : reporting word.«record» word.found Forward ≡ reporting r found way = ap (report_in (reporting r found way)) e in
+    (ap (λ (report : Report). Ok (reading report.«record» report.found)) same, sym (ap (λ (report : Report). report.way) same))
 told_accepted (Err n) r found way e = let two : ◌≡◌ {A = ℕ} 2 1 = ap kind e in absurd (omega arith)
 
 told_refused : (word : Result Word Refusal) (n : Refusal) → told word ≡ Refused n → word ≡ Err n
-unfolding kind number_in
-told_refused (Ok (reading r found)) n e = let one : ◌≡◌ {A = ℕ} 1 2 = ap kind e in absurd (omega arith)
-told_refused (Err k) n e = ap Err (ap number_in e)
+unfolding kind refusal_in
+told_refused (Ok _) n e = let one : ◌≡◌ {A = ℕ} 1 2 = ap kind e in absurd (omega arith)
+told_refused (Err k) n e = ap Err (ap (refusal_in k) e)
 
 module _ (mode : ℕ) (ways : Ways) (bits : List ℕ) where
   -- A report forward: exactly of a window that is an accepted word, whatever is allowed.
@@ -170,7 +170,7 @@ module _ (mode : ℕ) (ways : Ways) (bits : List ℕ) where
           absurd (true≢false (ap runs_backward (told_accepted (read_of mode bits) r found Backward (sym is ∙ e)).1))
       there (backward word turned both is) e =
           let same = ap (report_in (reporting r found Backward)) (sym is ∙ e) in
-          (both, ap (read_of mode) (sym turned) ∙ word.accepted ∙ ap₂ OkWord (ap (λ (report : Report). report.«record») same) (ap (λ (report : Report). report.found) same))
+          (both, ap (read_of mode) (sym turned) ∙ word.accepted ∙ ap (λ (report : Report). Ok (reading report.«record» report.found)) same)
       there (neither is) e = let none : ◌≡◌ {A = ℕ} 0 1 = ap kind (sym is ∙ e) in absurd (omega arith)
 
       back : (ways ≡ Both) × (read_of mode (reverse bits) ≡ Ok (reading r found)) → heard_in mode ways bits ≡ Accepted (reporting r found Backward)

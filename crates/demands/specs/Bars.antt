@@ -6,6 +6,7 @@ use Rattle.refusals.specs.declared.types.Refusal.{Refusal}
 use Rattle.pictures.specs.declared.types.PictureInSecond.{PictureInSecond}
 use Rattle.atc.specs.declared.types.Contents.{Contents}
 use Rattle.std.specs.Prelude.{ℕ, zero, suc, ◌≡◌, cond, List, [], ◌∷◌, ◌++◌, map, eqb, ℤ, pos, negsuc, take, drop, replicate, Err, Ok, Result}
+use Rattle.refusals.specs.Table.{number as refusal_number}
 use Rattle.bits.specs.Bits.{value}
 use Rattle.rates.specs.declared.types.Flag.{Flag}
 use Rattle.rates.specs.declared.types.Flag.TheVariants.{No, Yes}
@@ -33,19 +34,19 @@ pub data Told : Type 0 where
 
 abbrev of_numbered : Result DayFrame Refusal → Told
 of_numbered (Ok n) = number n.0
-of_numbered (Err n) = refused_by n
+of_numbered (Err r) = refused_by (refusal_number r)
 
 abbrev of_in_second : Result PictureInSecond Refusal → Told
 of_in_second (Ok n) = number n.0
-of_in_second (Err n) = refused_by n
+of_in_second (Err r) = refused_by (refusal_number r)
 
 abbrev of_pictured : Result Picture Refusal → Told
 of_pictured (Ok p) = shows p
-of_pictured (Err n) = refused_by n
+of_pictured (Err r) = refused_by (refusal_number r)
 
 abbrev of_span : Result ℤ Refusal → Told
 of_span (Ok z) = frames z
-of_span (Err n) = refused_by n
+of_span (Err r) = refused_by (refusal_number r)
 
 -- a bar: what the call tells, and what the document says it must be
 pub record Bar : Type 0 where
@@ -207,8 +208,8 @@ pair_bars =
 -- the skipped numbers of 120 drop; distances and sums that count pictures; types and second bytes that are not the mode's; a mark that is set; packets of each mode, with groups, read
 -- and written; two of modes 0 to 5, with flags, groups and a second byte, beside them; and packets whose checksum or low bits are wrong, where the type is as well
 abbrev of_written : Result Unit Refusal → List ℕ → Told
-of_written (Ok tt) left = elements left
-of_written (Err n) left = refused_by n
+of_written (Ok _) left = elements left
+of_written (Err r) left = refused_by (refusal_number r)
 
 -- a record of a picture, its flags drop, colour, mark, BGF0, BGF1 and BGF2, and its groups
 abbrev flags_of : Flag → Flag → Flag → Flag → Flag → Flag → Flags
@@ -249,7 +250,7 @@ on mode drop p z = of_pictured (plus_in mode drop p z)
 -- what a read of a packet tells: its picture
 abbrev of_read : Result Contents Refusal → Told
 of_read (Ok c) = shows (picture c.«record».address c.«record».place)
-of_read (Err n) = refused_by n
+of_read (Err r) = refused_by (refusal_number r)
 
 abbrev read_as : ℕ → List ℕ → Told
 read_as mode words = of_read (atc.read_of mode HighDefinition words)

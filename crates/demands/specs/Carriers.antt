@@ -1,6 +1,7 @@
 -- Demand 2 of what carries a record, "read or written": what is written, what is read, and that the two match one to one. What the elements mean is in
 -- the definitions of the carriers, to be held beside the standard. And demand 1 of a write "that is turned away".
 -- Assumes nothing.
+use Rattle.refusals.specs.declared.types.Refusal.{Refusal}
 use Rattle.std.specs.Prelude.{ℕ, ◌+◌, ◌<◌, ◌≤◌, ◌≡◌, true, cond, List, ◌↔◌, ◌⊎◌, length, Err, Ok}
 use Rattle.runs.specs.Run.{placed}
 use Rattle.rates.specs.declared.types.Flag.{Flag}
@@ -27,7 +28,7 @@ pub record Carrier (Content : Type 0) : Type 1 where
   pub Given : Content → Type 0
   pub Accepts : ℕ → Content → Type 0
   pub Writes : ℕ → Content → ℕ → List ℕ → Type 0
-  pub Refuses : ℕ → Content → ℕ → List ℕ → ℕ → Type 0
+  pub Refuses : ℕ → Content → ℕ → List ℕ → Refusal → Type 0
   pub leaves : ℕ → Content → ℕ → List ℕ → List ℕ
   pub Reads : ℕ → List ℕ → Content → Type 0
 
@@ -107,13 +108,13 @@ module _ {Content : Type 0} (carrier : Carrier Content) where
   abbrev pub DoneOrRefused : Type 0
   DoneOrRefused =
       (mode : ℕ) (content : Content) (start : ℕ) (run : List ℕ) → carrier.Given content
-      → (carrier.Writes mode content start run ⊎ ((number : ℕ) × carrier.Refuses mode content start run number))
-      × ((number : ℕ) → carrier.Writes mode content start run → carrier.Refuses mode content start run number → ⊥)
+      → (carrier.Writes mode content start run ⊎ ((number : Refusal) × carrier.Refuses mode content start run number))
+      × ((number : Refusal) → carrier.Writes mode content start run → carrier.Refuses mode content start run number → ⊥)
 
   -- "A write that is turned away changes no element lent to it": refused with whatever number, it leaves the run that it was lent.
   abbrev pub Unchanged : Type 0
   Unchanged =
-      (mode : ℕ) (content : Content) (start : ℕ) (run : List ℕ) (number : ℕ) → carrier.Refuses mode content start run number
+      (mode : ℕ) (content : Content) (start : ℕ) (run : List ℕ) (number : Refusal) → carrier.Refuses mode content start run number
       → carrier.leaves mode content start run ≡ run
 
   -- A write is done exactly where there is room and the carrier takes the content.
