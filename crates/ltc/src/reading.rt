@@ -3,7 +3,6 @@ ghost use Rattle.std.specs.Prelude.{◌≡◌};
 ghost use Rattle.ltc.specs.Calls.{read_of};
 
 use polarity::Word;
-use runs::Gathered;
 
 pub fn read(mode: u8, word: &[u8]) -> Word
     ensures { result ≡ read_of mode word.now }
@@ -17,10 +16,10 @@ pub fn read(mode: u8, word: &[u8]) -> Word
     }
     let low = runs::gather(&word[0..64]);
     let high = runs::gather(&word[64..80]);
-    let Gathered::Number(info) = low else {
+    let Ok(info) = low else {
         return Word::Refused(refusals::ELEMENT_TOO_HIGH);
     };
-    let Gathered::Number(sync) = high else {
+    let Ok(sync) = high else {
         return Word::Refused(refusals::ELEMENT_TOO_HIGH);
     };
     if sync != 0xbffc {
