@@ -1,6 +1,6 @@
--- Turns     the loop that stores goes on and ends
+-- Turns     the loops begin, go on and end
 pub mod Turns
--- Chains    what the library's `any` and `fold` say of words
+-- Chains    what the library's `any` says of words
 pub mod Chains
 -- Lists     how many data words there are, some of them, and how high a number can be that words hold together
 pub mod Lists

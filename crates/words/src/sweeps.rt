@@ -37,8 +37,9 @@ pub fn has_low_bits(words: &[u16]) -> bool
 pub fn checksum(words: &[u16]) -> u16
     ensures { result ≡ with_opposite (sum9 words.now % 512) }
 {
-    let sum = words
-        .iter()
-        .fold(0u16, |sum, word| sum.wrapping_add(*word % 512));
-    with_opposite(sum % 512)
+    let mut sum: u16 = 0;
+    for word in words {
+        sum = (sum + *word % 512) % 512;
+    }
+    with_opposite(sum)
 }

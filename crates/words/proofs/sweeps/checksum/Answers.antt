@@ -1,11 +1,17 @@
--- `words::sweeps::checksum` meets its contract: the fold in sixteen bits has the nine low bits of the sum.
+-- `words::sweeps::checksum` meets its contract. At each turn the sum so far and the words ahead make the whole.
 -- Assumes nothing.
-use Rattle.std.proofs.Common.{rules, ◌≡◌, ◌+◌, ◌%◌, ◌^◌}
-use Rattle.std.specs.List.{fold}
-use Rattle.words.proofs.Chains.{fold_sum9}
+use mathlib.Core.Path.{◌∙◌, ap}
+use native.Mathlib.Omega.{arith}
+use Prim.Native.Nat.{ℕ}
+use Rattle.words.specs.Words.{with_opposite}
+use Rattle.words.proofs.Turns.{sum_begins, sum_turns, sum_ends}
 use Rattle.words.proofs.sweeps.checksum.Goals as goal
 
+pub loop-word-init : goal.loop-word-init
+loop-word-init c = sum_begins _
+
+pub loop-word-preserved : goal.loop-word-preserved
+loop-word-preserved c = sum_turns _ _ _ c.loop-word.invariant (omega arith)
+
 pub returns : goal.returns
-returns c =
-    let summed : c.fold-sum.result ≡ fold (λ sum word. (sum + word % 512) % 2 ^ 16) 0 c.args.words.now = search rules in
-    rw (summed, fold_sum9 c.args.words.now) at c.with_opposite.ensures
+returns c = c.with_opposite.ensures ∙ ap (λ (n : ℕ). with_opposite n) (sum_ends _ _ _ c.loop-word.invariant (omega arith))
