@@ -8,6 +8,8 @@ pub mod Stride
 pub mod Pass
 pub mod Shape
 pub mod Turns
+-- Unstopped a pass that goes on whatever it finds
+pub mod Unstopped
 -- Folds     what a fold over elements tells
 pub mod Folds
 -- ThreeParts the parts of a line, lent one after the other, come back as the line
