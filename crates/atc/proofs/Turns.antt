@@ -1,15 +1,35 @@
 -- The loops begin, go on and end.
 -- Assumes nothing.
 use Prim.Native.Nat.{ℕ, suc, ◌+◌, ◌-◌, ◌*◌, ◌^◌, ◌≤◌, ◌<◌}
-use mathlib.Core.Path.{◌≡◌}
-use mathlib.Core.List.{List, ◌∷◌}
-use native.Mathlib.Nat.{pow-le-pow_right, lt_of_lt_of_le}
+use mathlib.Core.Path.{◌≡◌, refl, sym, ap, ◌∙◌}
+use mathlib.Core.List.{List, [], ◌∷◌, ◌++◌, append-nil, append_assoc}
+use native.Mathlib.Nat.{pow-le-pow_right, pow-suc, lt_of_lt_of_le, mul_comm}
 use native.Mathlib.Omega.{arith}
-use lib.ListN.{length, get_or, drop, length-drop}
+use lib.Arith.{digits_lt}
+use lib.ListN.{length, get_or, drop, length-drop, length-append}
 use lib.Seq.{drop-cons, drop-length}
+use Rattle.std.proofs.lemmas.List.{get_or_at}
 use Rattle.words.specs.Words.{gathered}
 use Rattle.words.proofs.Lists.{gathered_below}
 use Rattle.atc.specs.Loops.{Gathering}
+
+-- the words that are still to come stand before those that were read
+pub record Coming (words rest : List ℕ) : Type 0 where
+  pub read : List ℕ
+  pub whole : rest ++ read ≡ words
+
+module _ (words rest before : List ℕ) (word : ℕ) (c : Coming words rest) (next : rest ≡ before ++ (word ∷ [])) where
+  both : before ++ (word ∷ c.read) ≡ words
+  both = sym (append_assoc before (word ∷ []) c.read) ∙ (rw next at c.whole)
+
+  pub coming_turns : Coming words before
+  coming_turns = record { read = word ∷ c.read; whole = both }
+
+  pub word_here : get_or words (length before) 0 ≡ word
+  word_here = rw (← both) (get_or_at before word c.read 0 (length before) refl)
+
+  pub one_less : length rest ≡ suc (length before)
+  one_less = rw (next, length-append before (word ∷ [])) (omega arith)
 
 module _ (part : ℕ → ℕ) (base : ℕ) where
   module _ (words : List ℕ) where
@@ -35,3 +55,24 @@ module _ (part : ℕ → ℕ) (base : ℕ) where
 
       pub gather_ends : i ≤ 0 → number ≡ gathered part base words
       gather_ends none = let zero : i ≡ 0 = omega arith in rw zero at g.so_far
+
+    -- the same over the words that are still to come
+    module _ (rest before : List ℕ) (word : ℕ) (c : Coming words rest) (next : rest ≡ before ++ (word ∷ [])) (number : ℕ) (g : Gathering part base words number (length rest)) where
+      less : length rest ≡ suc (length before)
+      less = one_less words rest before word c next
+
+      pub digit_turns : (digit scale : ℕ) → digit ≡ part word → scale ≡ base → Gathering part base words (digit + scale * number) (length before)
+      digit_turns digit scale d s =
+          let last : length rest - 1 ≡ length before = omega (arith, less) in
+          rw (d, s) (rw (last, word_here words rest before word c next) at (gather_turns number (length rest) g (omega (arith, less))))
+
+      pub digit_fits : (most digit scale : ℕ) → digit ≡ part word → scale ≡ base → 0 < base → ((n : ℕ) → part n < base) → base ^ length words ≤ most → digit + scale * number < most
+      digit_fits most digit scale d s some low fits =
+          let size : length words ≡ suc (length words - 1) = omega (arith, g.within, less) in
+          let room : number < base ^ (length words - 1) = gather_room number (length rest) g (length words - 1) some low (omega (arith, less)) (omega (arith, size)) in
+          let below : number * base + part word < base ^ (length words - 1) * base = digits_lt room (low word) in
+          let up : base ^ length words ≡ base ^ (length words - 1) * base = ap (λ (n : ℕ). base ^ n) size ∙ pow-suc base (length words - 1) in
+          rw (d, s, mul_comm base number) (omega (arith, below, up, fits))
+
+  pub digits_begin : (words rest : List ℕ) → rest ≡ words → Coming words rest × Gathering part base words 0 (length rest)
+  digits_begin words rest all = rw all (record { read = []; whole = append-nil words }, gather_begins words)

@@ -1,4 +1,4 @@
--- OneByOne  bits turned round one at a time
+-- OneByOne  the library's bits in the opposite order
 -- Passed    what is not accepted backward is passed over
 -- Upper     what is heard forward in a reader's register
 -- Lower     what is heard backward in it

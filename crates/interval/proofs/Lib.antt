@@ -3,13 +3,15 @@
 -- Pass      all eight counts in one pass, eight places at a time
 -- Shape     how long the parts of a line are, and that they are bits
 -- Turns     the loops begin, go on and end
--- Unstopped a pass that goes on whatever it finds
 pub mod Lists
 pub mod Stride
 pub mod Pass
 pub mod Shape
 pub mod Turns
+-- Unstopped a pass that goes on whatever it finds
 pub mod Unstopped
+-- Folds     what a fold over elements tells
+pub mod Folds
 -- ThreeParts the parts of a line, lent one after the other, come back as the line
 -- FormTests what each test of the form of a line leads to
 pub mod ThreeParts

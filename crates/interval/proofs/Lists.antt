@@ -1,8 +1,8 @@
 -- An element for each number below a count, a test of each, and elements that are bits.
 -- Assumes nothing.
 use Prim.Native.Nat.{ℕ, zero, suc, ◌<◌, ◌≤◌}
-use mathlib.Core.Path.{◌≡◌, refl, sym, ap, ◌∙◌}
-use mathlib.Core.Bool.{Bool, true, false, ◌||◌, or-true}
+use mathlib.Core.Path.{◌≡◌, refl, ap, ◌∙◌}
+use mathlib.Core.Bool.{Bool, true, false}
 use mathlib.Core.List.{List, [], ◌∷◌}
 use native.Mathlib.Omega.{arith}
 use native.Mathlib.Nat.{not-suc-le-zero, le_of_suc-le-suc}
@@ -37,17 +37,6 @@ within_at limit (x ∷ xs) zero e = head_within limit x xs e
 within_at limit (x ∷ xs) (suc i) e = within_at limit xs i (tail_within limit x xs e)
 
 module _ (test : ℕ → Bool) where
-  pub some_of : (count i : ℕ) → i < count → test i ≡ true → some_below count test ≡ true
-  unfolding some_below
-  some_of zero i h e = absurd (not-suc-le-zero h)
-  some_of (suc count) i h e = go (ltb i count) refl (λ lower. some_of count i lower e)
-    where
-      go : (t : Bool) → ltb i count ≡ t → (i < count → some_below count test ≡ true) → (some_below count test || test count) ≡ true
-      go true t before = rw (before (ltb-true i count t))
-      go false t before =
-          let last : i ≡ count = omega (arith, ltb-false i count t) in
-          rw (ap test (sym last) ∙ e) (or-true (some_below count test))
-
   pub none_of : (count i : ℕ) → i < count → some_below count test ≡ false → test i ≡ false
   unfolding some_below
   none_of zero i h e = absurd (not-suc-le-zero h)

@@ -1,14 +1,14 @@
 -- All eight counts in one pass, eight places at a time.
 -- Assumes nothing.
-use Prim.Native.Nat.{ℕ, suc, ◌+◌, ◌%◌, ◌≤◌, ◌<◌}
+use Prim.Native.Nat.{ℕ, suc, ◌+◌, ◌-◌, ◌%◌, ◌≤◌, ◌<◌}
 use mathlib.Core.Path.{◌≡◌, refl, sym, ◌∙◌}
 use mathlib.Core.Bool.{Bool, true, false, cond}
-use mathlib.Core.List.{List, [], ◌∷◌, ◌++◌}
+use mathlib.Core.List.{List, [], ◌∷◌, ◌++◌, append_assoc}
 use native.Mathlib.Numerals.{add-one}
 use native.Mathlib.Omega.{arith}
 use lib.Dec.{eqb}
-use lib.ListN.{length, get_or, set, take, drop, length-set, replicate}
-use lib.Seq.{ext_get_or, get_or-set_same, get_or-set_other, take-suc, take-add, take_all, length-take-le}
+use lib.ListN.{length, get_or, set, take, drop, length-append, length-set, replicate}
+use lib.Seq.{ext_get_or, get_or-set_same, get_or-set_other, take-suc, take_all, drop_at, length-take-le}
 use borrow.Author.Tests.{eqb-true, eqb-false, eq-eqb}
 use Rattle.bits.specs.Bits.{AllBits}
 use Rattle.interval.specs.Line.{each, ones_from, ones_at}
@@ -70,24 +70,21 @@ module _ (part before : List ℕ) where
     pub add_small : get_or odds (place % 8) 0 ≤ 1
     add_small = omega (arith, a.so_far (place % 8) mine)
 
-    pub add_turns : place < length part
-        → Adding part before (set odds (place % 8) ((get_or odds (place % 8) 0 + one_in (get_or part place 0)) % 2)) (place + 1)
-    add_turns more =
+    pub add_turns : (one : ℕ) → one ≡ one_in (get_or part place 0) → place < length part
+        → Adding part before (set odds (place % 8) ((get_or odds (place % 8) 0 + one) % 2)) (place + 1)
+    add_turns one seen more =
         record {
           within = omega arith;
           long = length-set odds (place % 8) odd ∙ a.long;
           so_far = λ remainder h. rw (add-one place, take-suc part place 0 more) (go remainder h (eqb (place % 8) remainder) refl);
         }
       where
-        one : ℕ
-        one = one_in (get_or part place 0)
-
         odd : ℕ
         odd = (get_or odds (place % 8) 0 + one) % 2
 
         counted : (remainder : ℕ)
             → ones_at remainder (take place part ++ (get_or part place 0 ∷ [])) ≡ ones_at remainder (take place part) + cond (eqb (place % 8) remainder) one 0
-        counted remainder = rw (length-take-le place part a.within) at (ones_next remainder (take place part) (get_or part place 0))
+        counted remainder = rw (length-take-le place part a.within, ← seen) at (ones_next remainder (take place part) (get_or part place 0))
 
         go : (remainder : ℕ) → remainder < 8 → (t : Bool) → eqb (place % 8) remainder ≡ t
             → get_or (set odds (place % 8) odd) remainder 0 ≡ (get_or before remainder 0 + ones_at remainder (take place part ++ (get_or part place 0 ∷ []))) % 2
@@ -126,32 +123,39 @@ further front part whole =
     both remainder h = rw (get_d_each 8 (λ n. ones_at n front % 2) remainder h, ones_further remainder front part whole) (omega arith)
 
 -- the pass: the counts of the elements so far, which are whole eights
-pub record Passing (run odds : List ℕ) (at : ℕ) : Type 0 where
-  pub within : at ≤ length run
-  pub whole : at % 8 ≡ 0
-  pub so_far : odds ≡ odds_of (take at run)
+pub record Passing (run odds rest : List ℕ) : Type 0 where
+  pub front : List ℕ
+  pub together : front ++ rest ≡ run
+  pub whole : length front % 8 ≡ 0
+  pub so_far : odds ≡ odds_of front
 
 module _ (run : List ℕ) where
-  pub eights_begin : Passing run (replicate 8 0) 0
+  pub eights_begin : (rest : List ℕ) → rest ≡ run → Passing run (replicate 8 0) rest
   unfolding each ones_from
-  eights_begin = record { within = omega arith; whole = refl; so_far = refl }
+  eights_begin rest all = record { front = []; together = all; whole = refl; so_far = refl }
 
-  module _ (odds : List ℕ) (at : ℕ) (p : Passing run odds at) where
+  module _ (odds rest : List ℕ) (p : Passing run odds rest) where
     -- what adding the next elements asks
     pub eights_ask : (length odds ≡ 8) × AllBits odds
     eights_ask = (
-      rw p.so_far (length_each 8 (λ remainder. ones_at remainder (take at run) % 2)),
-      rw p.so_far (within_each 1 8 (λ remainder. ones_at remainder (take at run) % 2) (λ remainder. omega arith)),
+      rw p.so_far (length_each 8 (λ remainder. ones_at remainder p.front % 2)),
+      rw p.so_far (within_each 1 8 (λ remainder. ones_at remainder p.front % 2) (λ remainder. omega arith)),
     )
 
-    module _ (after : List ℕ) (more : ℕ) (told : after ≡ added odds (take more (drop at run))) where
-      counted : after ≡ odds_of (take (at + more) run)
-      counted =
-          rw (told, p.so_far, take-add at more run)
-          (further (take at run) (take more (drop at run)) (rw (length-take-le at run p.within) p.whole))
+    counted : (part after : List ℕ) → after ≡ added odds part → after ≡ odds_of (p.front ++ part)
+    counted part after told = rw (told, p.so_far) (further p.front part p.whole)
 
-      pub eights_turn : more ≡ 8 → at + 8 ≤ length run → Passing run after (at + 8)
-      eights_turn eight room = record { within = room; whole = omega (arith, p.whole); so_far = rw eight at counted }
+    pub eights_turn : (part left after : List ℕ) → rest ≡ part ++ left → length part ≡ 8 → after ≡ added odds part → Passing run after left
+    eights_turn part left after next eight told = record {
+      front = p.front ++ part;
+      together = append_assoc p.front part left ∙ (rw next at p.together);
+      whole = rw (length-append p.front part, eight) (omega (arith, p.whole));
+      so_far = counted part after told;
+    }
 
-      pub eights_end : length run ≤ at + more → after ≡ odds_of run
-      eights_end all = rw (take_all (at + more) run all) at counted
+    pub eights_end : (end after : List ℕ) → length rest < 8 → end ≡ drop (length run - length run % 8) run → after ≡ added odds end → after ≡ odds_of run
+    eights_end end after few is told =
+        let long : length run ≡ length p.front + length rest = rw (← p.together) (length-append p.front rest) in
+        let at : length run - length run % 8 ≡ length p.front = omega (arith, p.whole) in
+        let rest_is : end ≡ rest = is ∙ rw (at, ← p.together) (drop_at p.front rest (length p.front) refl) in
+        counted end after told ∙ rw (rest_is, p.together)

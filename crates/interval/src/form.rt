@@ -13,14 +13,8 @@ use refusals::Refusal;
 fn has_high_element(line: &[u8]) -> bool
     ensures { result ≡ some_above 1 line.now }
 {
-    let mut high = false;
-    let mut i = line.len();
-    while 0 < i {
-        i -= 1;
-        let element = line[i];
-        high = high | (1 < element);
-    }
-    high
+    line.iter()
+        .fold(false, |high, element| high | (1 < *element))
 }
 
 // Nine pairs 1, 0, ten elements apart.
@@ -29,13 +23,11 @@ fn has_wrong_pair(line: &[u8]) -> bool
     ensures { result ≡ wrong_pair line.now }
 {
     let mut wrong = false;
-    let mut g: usize = 0;
-    while g < 9 {
+    for g in 0..9 {
         let first = line[10 * g];
         let second = line[10 * g + 1];
         let here = (first != 1) | (second != 0);
-        wrong = wrong | here;
-        g += 1;
+        wrong |= here;
     }
     wrong
 }
@@ -46,14 +38,7 @@ fn has_wrong_crc(line: &[u8]) -> bool
 {
     let mut odds = [0u8; 8];
     count_ones(line, &mut odds);
-    let mut wrong = false;
-    let mut remainder: usize = 0;
-    while remainder < 8 {
-        let odd = odds[remainder];
-        wrong = wrong | (odd != 0);
-        remainder += 1;
-    }
-    wrong
+    odds.iter().fold(false, |wrong, odd| wrong | (*odd != 0))
 }
 
 // Whether the elements have the form of a line, whatever they carry.

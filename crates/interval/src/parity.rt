@@ -7,27 +7,7 @@ ghost use Rattle.interval.specs.Line.{each, ones_at};
 fn one_in(element: u8) -> u8
     ensures { result ≡ cond (eqb element 1) 1 0 }
 {
-    if element == 1 {
-        return 1;
-    }
-    0
-}
-
-// 1 where the places that have this one's remainder by 8 hold an odd number of ones, and else 0.
-pub fn parity(place: usize, run: &[u8]) -> u8
-    ensures { result ≡ ones_at (place % 8) run.now % 2 }
-{
-    let mut odd: u8 = 0;
-    let mut at = place % 8;
-    while at < run.len() {
-        let one = one_in(run[at]);
-        odd = (odd + one) % 2;
-        if run.len() - at <= 8 {
-            return odd;
-        }
-        at += 8;
-    }
-    odd
+    u8::from(element == 1)
 }
 
 // Adds the ones of a part to the eight counts, each to that of the remainder of its place in the part by 8. Of a count only its last bit is
@@ -36,13 +16,11 @@ fn add_ones(part: &[u8], odds: &mut [u8; 8])
     requires { (length odds.old ≡ 8) × AllBits odds.old }
     ensures { odds.new ≡ each 8 (λ remainder. (get_or odds.old remainder 0 + ones_at remainder part.now) % 2) }
 {
-    let mut place: usize = 0;
-    while place < part.len() {
-        let one = one_in(part[place]);
+    for (place, element) in part.iter().enumerate() {
+        let one = one_in(*element);
         let remainder = place % 8;
         let odd = odds[remainder];
         odds[remainder] = (odd + one) % 2;
-        place += 1;
     }
 }
 
@@ -52,12 +30,10 @@ pub fn count_ones(run: &[u8], odds: &mut [u8; 8])
     ensures { odds.new ≡ each 8 (λ remainder. ones_at remainder run.now % 2) }
 {
     *odds = [0u8; 8];
-    let mut at: usize = 0;
-    while 8 <= run.len() - at {
-        let next = at + 8;
-        add_ones(&run[at..next], odds);
-        at = next;
+    let eights = run.chunks_exact(8);
+    let rest = eights.remainder();
+    for part in eights {
+        add_ones(part, odds);
     }
-    let end = run.len();
-    add_ones(&run[at..end], odds);
+    add_ones(rest, odds);
 }

@@ -4,7 +4,7 @@ ghost use Rattle.bits.specs.Bits.{value};
 ghost use Rattle.runs.specs.Run.{written_by, run_after, room_refusals};
 ghost use Rattle.interval.specs.Line.{crc_of, groups, line_with};
 
-use crate::parity::parity;
+use crate::parity::count_ones;
 use refusals::Refusal;
 
 // Eight groups of ten: the pair 1, 0 and eight information bits, low bit first.
@@ -13,13 +13,11 @@ fn write_groups(info: u64, part: &mut [u8])
     ensures { part.new ≡ groups 8 info }
 {
     let mut left = info;
-    let mut g: usize = 0;
-    while g < 8 {
+    for g in 0..8 {
         let start = 10 * g;
         let end = start + 10;
         runs::scatter(1 + 4 * (left % 256), &mut part[start..end]);
-        left = left / 256;
-        g += 1;
+        left /= 256;
     }
 }
 
@@ -27,12 +25,11 @@ fn write_groups(info: u64, part: &mut [u8])
 fn crc(front: &[u8]) -> u64
     ensures { result ≡ value (crc_of front.now) }
 {
+    let mut odds = [0u8; 8];
+    count_ones(front, &mut odds);
     let mut number: u64 = 0;
-    let mut i: usize = 8;
-    while 0 < i {
-        i -= 1;
-        let odd = parity(82 + i, front);
-        number = 2 * number + odd as u64;
+    for i in (0..8).rev() {
+        number = 2 * number + odds[(82 + i) % 8] as u64;
     }
     number
 }

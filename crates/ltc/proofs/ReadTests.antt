@@ -13,8 +13,8 @@ use Rattle.refusals.specs.declared.types.Refusal.TheVariants.{ElementTooHigh, Un
 use Rattle.polarity.specs.declared.types.Word.{Word}
 use Rattle.refusals.specs.declared.types.Refusal.{Refusal}
 use Rattle.bits.specs.Bits.{value, some_above}
-use Rattle.runs.specs.declared.types.Gathered.{Gathered}
-use Rattle.runs.specs.declared.types.Gathered.TheVariants.{Number}
+use Rattle.std.proofs.Common.{Result, Ok}
+use Rattle.runs.specs.declared.types.NoNumber.{NoNumber}
 use Rattle.runs.specs.Gather.{gathered_of}
 use Rattle.runs.specs.Run.{same}
 use Rattle.runs.proofs.Same.{same_itself, gathered_is, not_gathered}
@@ -25,8 +25,8 @@ use Rattle.ltc.specs.Calls.{read_of}
 use Rattle.ltc.proofs.Sync.{low_length, high_length, above_in_parts, sync_by_number, other_sync, word_is}
 
 -- an answer that is not the first of its cases, as the `else` of a `let` is told it
-abbrev Another : Gathered → Type 0
-Another answer = (n : ℕ) → answer ≡ Number n → ⊥
+abbrev Another : Result ℕ NoNumber → Type 0
+Another answer = (n : ℕ) → answer ≡ Ok n → ⊥
 
 module _ (mode : ℕ) (word : List ℕ) where
   pub wrong_size : (length word ≡ 80 → ⊥) → Err WrongLength ≡ read_of mode word
@@ -39,7 +39,7 @@ module _ (mode : ℕ) (word : List ℕ) where
     no_mode past asked e = rw (eq-eqb (length word) 80 long, ← asked, e)
 
     module _
-        (past : Bool) (asked : past ≡ unknown mode) (within : past ≡ false) (low high : Gathered)
+        (past : Bool) (asked : past ≡ unknown mode) (within : past ≡ false) (low high : Result ℕ NoNumber)
         (first : low ≡ gathered_of (take 64 word)) (last : high ≡ gathered_of (take 16 (drop 64 word))) where
       known : unknown mode ≡ false
       known = sym asked ∙ within
@@ -59,7 +59,7 @@ module _ (mode : ℕ) (word : List ℕ) where
           let above = not_gathered (drop 64 word) (omega (arith, high_length word long)) (λ n is. e n (last ∙ ap gathered_of high_part ∙ is)) in
           rw (eq-eqb (length word) 80 long, known, above_in_parts word long, above, or-true (some_above 1 (take 64 word)))
 
-      module _ (info sync : ℕ) (is_low : low ≡ Number info) (is_high : high ≡ Number sync) where
+      module _ (info sync : ℕ) (is_low : low ≡ Ok info) (is_high : high ≡ Ok sync) where
         low_is : (some_above 1 (take 64 word) ≡ false) × (info ≡ value (take 64 word))
         low_is = gathered_is (take 64 word) info (sym first ∙ is_low)
 

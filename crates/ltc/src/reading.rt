@@ -3,7 +3,6 @@ ghost use Rattle.std.specs.Prelude.{◌≡◌};
 ghost use Rattle.ltc.specs.Calls.{read_of};
 
 use polarity::Word;
-use runs::Gathered;
 use refusals::Refusal;
 
 pub fn read(mode: u8, word: &[u8]) -> Result<Word, Refusal>
@@ -18,10 +17,10 @@ pub fn read(mode: u8, word: &[u8]) -> Result<Word, Refusal>
     }
     let low = runs::gather(&word[0..64]);
     let high = runs::gather(&word[64..80]);
-    let Gathered::Number(info) = low else {
+    let Ok(info) = low else {
         return Err(Refusal::ElementTooHigh);
     };
-    let Gathered::Number(sync) = high else {
+    let Ok(sync) = high else {
         return Err(Refusal::ElementTooHigh);
     };
     if sync != 0xbffc {

@@ -8,7 +8,8 @@ use lib.Dec.{ltb, eqb}
 use lib.ListN.{length}
 use borrow.Author.Tests.{eq-eqb, eqb-true, le-ltb}
 use Rattle.bits.specs.Bits.{value, some_above}
-use Rattle.runs.specs.declared.types.Gathered.TheVariants.{Number, TooLong, NoBit}
+use Rattle.std.proofs.Common.{Ok, Err}
+use Rattle.runs.specs.declared.types.NoNumber.TheVariants.{TooLong, NoBit}
 use Rattle.runs.specs.Gather.{gathered_of}
 use Rattle.runs.specs.Run.{same}
 
@@ -39,17 +40,17 @@ not_same xs ys other = go (same xs ys) refl
     go false e = e
 
 -- a number that was gathered is the run's, all of whose elements are bits
-pub gathered_is : (run : List ℕ) (n : ℕ) → gathered_of run ≡ Number n → (some_above 1 run ≡ false) × (n ≡ value run)
+pub gathered_is : (run : List ℕ) (n : ℕ) → gathered_of run ≡ Ok n → (some_above 1 run ≡ false) × (n ≡ value run)
 unfolding gathered_of
 gathered_is run n e = go (ltb 64 (length run)) (some_above 1 run) e
   where
-    go : (long high : Bool) → cond long TooLong (cond high NoBit (Number (value run))) ≡ Number n → (high ≡ false) × (n ≡ value run)
+    go : (long high : Bool) → cond long (Err TooLong) (cond high (Err NoBit) (Ok (value run))) ≡ Ok n → (high ≡ false) × (n ≡ value run)
     go true high is = (cc, cc)
     go false true is = (cc, cc)
     go false false is = (refl, cc)
 
 -- at most 64 elements that make no number have one above 1
-pub not_gathered : (run : List ℕ) → length run ≤ 64 → ((n : ℕ) → gathered_of run ≡ Number n → ⊥) → some_above 1 run ≡ true
+pub not_gathered : (run : List ℕ) → length run ≤ 64 → ((n : ℕ) → gathered_of run ≡ Ok n → ⊥) → some_above 1 run ≡ true
 unfolding gathered_of
 not_gathered run short none = go (some_above 1 run) refl
   where

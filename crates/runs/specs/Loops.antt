@@ -1,14 +1,15 @@
 -- What holds at each turn of the two loops, over plain values.
 -- Assumes nothing.
-use Rattle.std.specs.Prelude.{ℕ, ◌-◌, ◌≤◌, ◌≡◌, false, List, ◌++◌, length, take, drop}
+use Rattle.std.specs.Prelude.{ℕ, ◌-◌, ◌≤◌, ◌≡◌, false, List, ◌++◌, length, take}
 use Rattle.bits.specs.Bits.{value, to_bits, some_above}
 
--- gathering from the end: the number is that of the elements from the i-th on
-pub record Gathering (run : List ℕ) (number i : ℕ) : Type 0 where
-  pub within : i ≤ length run
+-- gathering from the end: the number is that of the elements behind those that are still to come
+pub record Gathering (run : List ℕ) (number : ℕ) (rest : List ℕ) : Type 0 where
+  pub behind : List ℕ
+  pub whole : rest ++ behind ≡ run
   pub short : length run ≤ 64
-  pub so_far : number ≡ value (drop i run)
-  pub clean : some_above 1 (drop i run) ≡ false
+  pub so_far : number ≡ value behind
+  pub clean : some_above 1 behind ≡ false
 
 -- scattering from the front: what is stored and what is left make the whole
 pub record Scattering (number size : ℕ) (run : List ℕ) (left i : ℕ) : Type 0 where

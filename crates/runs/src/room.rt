@@ -6,11 +6,5 @@ ghost use Rattle.runs.specs.Run.{lacks_room};
 pub fn lacks_room(size: usize, start: usize, length: usize) -> bool
     ensures { result ≡ lacks_room size start length }
 {
-    if length < start {
-        return true;
-    }
-    if length - start < size {
-        return true;
-    }
-    false
+    length < start || length - start < size
 }

@@ -1,7 +1,6 @@
-// The number that a run of at most 64 bits stands for. A longer run has none, nor has one with an element above 1.
-#[derive(Clone, Copy)]
-pub enum Gathered {
-    Number(u64),
+// Why a run stands for no number: it has more than 64 elements, or one above 1.
+#[derive(Clone, Copy, Debug, PartialEq, Eq)]
+pub enum NoNumber {
     TooLong,
     NoBit,
 }

@@ -14,9 +14,7 @@ fn information(line: &[u8]) -> u64
     ensures { result ≡ info_in line.now }
 {
     let mut number: u64 = 0;
-    let mut n: usize = 64;
-    while 0 < n {
-        n -= 1;
+    for n in (0..64).rev() {
         let bit = line[n + 2 + 2 * (n / 8)];
         number = 2 * number + bit as u64;
     }

@@ -1,13 +1,8 @@
 -- What holds at each turn of the loops, over plain values.
 -- Assumes nothing.
-use Rattle.std.specs.Prelude.{ℕ, ◌+◌, ◌-◌, ◌%◌, ◌<◌, ◌≤◌, ◌≡◌, Bool, List, ◌++◌, length, take, drop}
+use Rattle.std.specs.Prelude.{ℕ, ◌+◌, ◌-◌, ◌%◌, ◌<◌, ◌≤◌, ◌≡◌, List, ◌++◌, length, take, drop}
 use Rattle.bits.specs.Bits.{to_bits}
-use Rattle.words.specs.Words.{some_word, sum9, data_words}
-
--- looking for a word: none of those passed meets the test
-pub record Looking (test : ℕ → Bool) (words : List ℕ) (i : ℕ) : Type 0 where
-  pub within : i ≤ length words
-  pub ahead : some_word test (drop i words) ≡ some_word test words
+use Rattle.words.specs.Words.{sum9, data_words}
 
 -- summing: the sum so far and the words ahead make the whole
 pub record Summing (words : List ℕ) (sum i : ℕ) : Type 0 where

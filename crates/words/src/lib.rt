@@ -1,7 +1,7 @@
 // Words of ten bits, what an ancillary packet is made of.
 //
 // making     one word with its b8 and b9, and a run of data words
-// sweeps     loops over words: tests and the checksum
+// sweeps     what is asked of all words: tests and the checksum
 #![tactic(auto)]
 
 mod making;

@@ -28,13 +28,11 @@ pub fn store_data(info: u64, carried: u16, run: &mut [u16])
 {
     let mut left = info;
     let mut bits = carried;
-    let mut i = 0;
-    while i < run.len() {
+    for word in run.iter_mut() {
         let nibble = (left % 16) as u8;
         let bit = (bits % 2) as u8;
-        run[i] = data_word(nibble, bit);
-        left = left / 16;
-        bits = bits / 2;
-        i += 1;
+        *word = data_word(nibble, bit);
+        left /= 16;
+        bits /= 2;
     }
 }

@@ -1,4 +1,4 @@
-// Loops over words.
+// What is asked of all words: tests and the checksum.
 ghost use Rattle.std.specs.Prelude.{◌≡◌, ◌%◌};
 ghost use Rattle.bits.specs.Bits.{some_above};
 ghost use Rattle.words.specs.Words.{wrong_word, low_set, some_word, sum9, with_opposite};
@@ -16,42 +16,21 @@ fn is_wrong(word: u16) -> bool
 pub fn has_high_word(words: &[u16]) -> bool
     ensures { result ≡ some_above 1023 words.now }
 {
-    let mut i = 0;
-    while i < words.len() {
-        if 1023 < words[i] {
-            return true;
-        }
-        i += 1;
-    }
-    false
+    words.iter().any(|word| 1023 < *word)
 }
 
 // Whether b8 or b9 of some data word is wrong.
 pub fn has_wrong_word(words: &[u16]) -> bool
     ensures { result ≡ some_word wrong_word words.now }
 {
-    let mut i = 0;
-    while i < words.len() {
-        if is_wrong(words[i]) {
-            return true;
-        }
-        i += 1;
-    }
-    false
+    words.iter().any(|word| is_wrong(*word))
 }
 
 // Whether b0, b1 or b2 of some data word is set.
 pub fn has_low_bits(words: &[u16]) -> bool
     ensures { result ≡ some_word low_set words.now }
 {
-    let mut i = 0;
-    while i < words.len() {
-        if words[i] % 8 != 0 {
-            return true;
-        }
-        i += 1;
-    }
-    false
+    words.iter().any(|word| *word % 8 != 0)
 }
 
 // The nine low bits of the words summed modulo 512, with b9.
@@ -59,10 +38,8 @@ pub fn checksum(words: &[u16]) -> u16
     ensures { result ≡ with_opposite (sum9 words.now % 512) }
 {
     let mut sum: u16 = 0;
-    let mut i = 0;
-    while i < words.len() {
-        sum = (sum + words[i] % 512) % 512;
-        i += 1;
+    for word in words {
+        sum = (sum + *word % 512) % 512;
     }
     with_opposite(sum)
 }

@@ -1,62 +1,59 @@
--- `interval::placing::crc` meets its contract. At each turn the number is that of the CRC bits from the i-th on.
+-- `interval::placing::crc` meets its contract. At each turn the number is that of the bits from the i-th on.
 -- Assumes nothing.
+use Prim.Native.Nat.{ℕ, ◌+◌, ◌-◌, ◌*◌, ◌%◌, ◌^◌, ◌≤◌, ◌<◌}
 use mathlib.Core.Path.{◌≡◌, sym, ◌∙◌}
-use Prim.Native.Nat.{ℕ, suc, ◌+◌, ◌-◌, ◌*◌, ◌%◌, ◌^◌, ◌≤◌, ◌<◌}
+use mathlib.Core.List.{List, [], ◌∷◌, ◌++◌}
 use native.Mathlib.Omega.{arith}
-use mathlib.Core.List.{List}
-use lib.ListN.{length, get_or}
-use Rattle.bits.specs.Bits.{value}
+use lib.ListN.{length, get_or, take}
+use lib.Seq.{take_all}
+use Rattle.std.proofs.lemmas.List.{take_more}
 use Rattle.runs.specs.Loops.{Gathering}
-use Rattle.runs.proofs.Turns.{gather_begins, gather_turns, gather_room, gather_ends}
+use Rattle.runs.proofs.Turns.{gather_begins, gather_turns, gather_room}
 use Rattle.interval.specs.Line.{ones_at, crc_of}
 use Rattle.interval.proofs.Lists.{length_each, get_d_each}
+use Rattle.interval.proofs.Pass.{odds_of}
 use Rattle.interval.proofs.placing.crc.Goals as goal
 
 module _ (front : List ℕ) where
-  begun : Gathering (crc_of front) 0 8
+  long : length (crc_of front) ≡ 8
   unfolding crc_of
-  begun =
-      let long : length (crc_of front) ≡ 8 = length_each 8 (λ i. ones_at ((82 + i) % 8) front % 2) in
-      rw long at (gather_begins (crc_of front) (omega arith))
+  long = length_each 8 (λ i. ones_at ((82 + i) % 8) front % 2)
 
-  module _ (number i odd : ℕ) (g : Gathering (crc_of front) number i) (some : 0 < i) where
-    here : Gathering (crc_of front) number (suc (i - 1))
-    here = let same : suc (i - 1) ≡ i = omega arith in rw same g
+  begun : Gathering (crc_of front) 0 (take 8 (crc_of front))
+  begun = gather_begins (crc_of front) _ (take_all 8 (crc_of front) (omega (arith, long))) (omega (arith, long))
 
-    room : number < 2 ^ 63
-    room = gather_room (crc_of front) number (i - 1) here
+  -- the bit of a place is the count of its remainder
+  bit_at : (odds : List ℕ) → odds ≡ odds_of front → (place : ℕ) → get_or odds (place % 8) 0 ≡ ones_at (place % 8) front % 2
+  bit_at odds told place = rw told (get_d_each 8 (λ n. ones_at n front % 2) (place % 8) (omega arith))
 
-    turned : i ≤ 8 → odd ≡ ones_at ((82 + (i - 1)) % 8) front % 2 → Gathering (crc_of front) (2 * number + odd) (i - 1)
+  module _ (i : ℕ) (within : i ≤ 8) (some : 0 < i) (bit : ℕ) (told : bit ≡ ones_at ((82 + (i - 1)) % 8) front % 2) where
+    next : take i (crc_of front) ≡ take (i - 1) (crc_of front) ++ (bit ∷ [])
     unfolding crc_of
-    turned h e =
-        let at : get_or (crc_of front) (i - 1) 0 ≡ odd = get_d_each 8 (λ i. ones_at ((82 + i) % 8) front % 2) (i - 1) (omega arith) ∙ sym e in
-        rw at at (gather_turns (crc_of front) number (i - 1) here (rw at (omega arith)))
+    next =
+        let last : i - 1 + 1 ≡ i = omega arith in
+        let here : get_or (crc_of front) (i - 1) 0 ≡ bit = get_d_each 8 (λ n. ones_at ((82 + n) % 8) front % 2) (i - 1) (omega arith) ∙ sym told in
+        rw (last, here) at (take_more (crc_of front) (i - 1) 0 (omega (arith, long)))
 
-  done : (number i : ℕ) → Gathering (crc_of front) number i → i ≤ 0 → number ≡ value (crc_of front)
-  done number i g none =
-      let zero : i ≡ 0 = omega arith in
-      (gather_ends (crc_of front) number (rw zero at g)).0
+    module _ (number : ℕ) (g : Gathering (crc_of front) number (take i (crc_of front))) where
+      room : number < 2 ^ 63
+      room = gather_room (crc_of front) number (take i (crc_of front)) g (take (i - 1) (crc_of front)) bit next
+
+      turned : Gathering (crc_of front) (2 * number + bit) (take (i - 1) (crc_of front))
+      turned = gather_turns (crc_of front) number (take i (crc_of front)) g (take (i - 1) (crc_of front)) bit next (omega (arith, told))
 
 pub loop-i-init : goal.loop-i-init
-loop-i-init c = (omega arith, search begun)
-
-pub overflow_sub-i : goal.overflow_sub-i
-overflow_sub-i c = omega arith
-
-pub overflow_add-i : goal.overflow_add-i
-overflow_add-i c = omega arith
+loop-i-init c = (omega arith, begun _)
 
 pub overflow_mul-number : goal.overflow_mul-number
-overflow_mul-number c = let low : c.loop-i.number < 2 ^ 63 = search room in omega arith
+overflow_mul-number c =
+    let few : c.loop-i.number < 2 ^ 63 = room _ _ c.loop-i.invariant.0 (omega arith) _ (bit_at _ _ c.count_ones.ensures (82 + (c.loop-i.i - 1))) _ c.loop-i.invariant.1 in
+    omega arith
 
-pub overflow_add-number : goal.overflow_add-number
-overflow_add-number c = let low : c.loop-i.number < 2 ^ 63 = search room in omega arith
-
-pub loop-i-smaller : goal.loop-i-smaller
-loop-i-smaller c = omega arith
+pub overflow_add-number-in-loop-i : goal.overflow_add-number-in-loop-i
+overflow_add-number-in-loop-i c =
+    let told = bit_at _ _ c.count_ones.ensures (82 + (c.loop-i.i - 1)) in
+    let few : c.loop-i.number < 2 ^ 63 = room _ _ c.loop-i.invariant.0 (omega arith) _ told _ c.loop-i.invariant.1 in
+    omega (arith, told)
 
 pub loop-i-preserved : goal.loop-i-preserved
-loop-i-preserved c = (omega arith, search turned)
-
-pub returns : goal.returns
-returns c = search done
+loop-i-preserved c = (omega arith, turned _ _ c.loop-i.invariant.0 (omega arith) _ (bit_at _ _ c.count_ones.ensures (82 + (c.loop-i.i - 1))) _ c.loop-i.invariant.1)

@@ -11,10 +11,10 @@ pub returns-then-unknown : goal.returns-then-unknown
 returns-then-unknown c = search no_mode
 
 pub returns-in_default : goal.returns-in_default
-returns-in_default c = search (no_bit_low, c.in_default.not-Number)
+returns-in_default c = search (no_bit_low, c.in_default.not-Ok)
 
 pub returns-in_default-high : goal.returns-in_default-high
-returns-in_default-high c = search (no_bit_high, c.in_default-high.not-Number)
+returns-in_default-high c = search (no_bit_high, c.in_default-high.not-Ok)
 
 pub returns-then-sync-ne49148 : goal.returns-then-sync-ne49148
 returns-then-sync-ne49148 c = search another_sync
