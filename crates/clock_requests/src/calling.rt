@@ -5,8 +5,9 @@ ghost use Rattle.clock_requests.specs.Telling.{number_told, span_told, picture_t
 use crate::types::{Call, Told};
 use clock::{Numbered, Placed, Span};
 use kinds::{
-    Frames24, Frames25, Frames30, Frames30Drop, Frames48, Frames50, Frames60, Frames60Drop,
-    Frames72, Frames96, Frames100, Frames120As24x5, Frames120As30x4, Frames120Drop,
+    CountsAddresses, CountsPictures, Frames24, Frames25, Frames30, Frames30Drop, Frames48,
+    Frames50, Frames60, Frames60Drop, Frames72, Frames96, Frames100, Frames120As24x5,
+    Frames120As30x4, Frames120Drop,
 };
 use layout::flag;
 use pictures::{InSecond, Picture, Pictured};
