@@ -4,5 +4,3 @@
 pub mod Ascii
 pub mod Numerals
 pub mod Gathered
--- Loops        what holds at each turn of the loop
-pub mod Loops
