@@ -14,6 +14,7 @@ pub fn append_decimal(number: u64, text: &mut [u8], at: usize) -> usize
 }
 
 // By hand, since the digits of `io` and of the library are lower-case.
+#[tactic(auto, unfolding(crate::specs::Numerals::hex_digit))]
 pub fn hex_digit(number: u8) -> u8
     ensures { result ≡ hex_digit number }
 {
