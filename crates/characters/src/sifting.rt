@@ -20,11 +20,10 @@ fn is_digit(character: u8) -> bool
 pub fn sift(run: &mut [u8]) -> Sifted
     ensures { (result ≡ sifted_of run.old) × (run.new ≡ placed 0 (bits_in run.old) run.old) }
 {
-    let mut read = 0;
+    // By index: the bits are put where characters stood, and an iterator would keep the run lent.
     let mut write = 0;
-    while read < run.len() {
+    for read in 0..run.len() {
         let character = run[read];
-        read += 1;
         if is_skipped(character) {
             continue;
         }

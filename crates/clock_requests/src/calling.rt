@@ -2,13 +2,16 @@
 ghost use Rattle.std.specs.Prelude.{◌≡◌, true};
 ghost use Rattle.clock_requests.specs.Telling.{number_told, span_told, picture_told, may_tell};
 
-use rates::Address;
 use crate::types::{Call, Told};
-use kinds::{Frames24, Frames25, Frames30, Frames30Drop, Frames48, Frames50, Frames60, Frames60Drop, Frames72, Frames96, Frames100, Frames120As24x5, Frames120As30x4, Frames120Drop};
+use clock::{Numbered, Placed, Span};
+use kinds::{
+    CountsAddresses, CountsPictures, Frames24, Frames25, Frames30, Frames30Drop, Frames48,
+    Frames50, Frames60, Frames60Drop, Frames72, Frames96, Frames100, Frames120As24x5,
+    Frames120As30x4, Frames120Drop,
+};
 use layout::flag;
-use pictures::Picture;
+use pictures::{InSecond, Picture, Pictured};
 use requests::{Numbers, address_in, byte, count, day_frame, picture_in};
-use refusals::Refusal;
 
 // The picture that follows MODE and DROP.
 fn first_picture(n: &Numbers) -> Picture {
@@ -24,8 +27,8 @@ fn number_for(n: &Numbers) -> Told
 {
     let numbered = modes::number_of(byte(n[0]), flag(n[1]), first_picture(n));
     match numbered {
-        Err(number) => Told::Refused(number),
-        Ok(frame) => Told::Number(frame.0 as u64),
+        Numbered::Refused(number) => Told::Refused(number),
+        Numbered::Number(frame) => Told::Number(frame.0 as u64),
     }
 }
 
@@ -34,8 +37,8 @@ fn in_second_for(n: &Numbers) -> Told
 {
     let counted = modes::number_in_second(byte(n[0]), flag(n[1]), first_picture(n));
     match counted {
-        Err(number) => Told::Refused(number),
-        Ok(picture) => Told::Number(picture.0 as u64),
+        InSecond::Refused(number) => Told::Refused(number),
+        InSecond::Number(picture) => Told::Number(picture.0 as u64),
     }
 }
 
@@ -44,20 +47,20 @@ fn distance_for(n: &Numbers) -> Told
 {
     let span = modes::distance(byte(n[0]), flag(n[1]), first_picture(n), second_picture(n));
     match span {
-        Err(number) => Told::Refused(number),
-        Ok(frames) => Told::Frames(frames),
+        Span::Refused(number) => Told::Refused(number),
+        Span::Frames(frames) => Told::Frames(frames),
     }
 }
 
-fn picture_for(n: &Numbers) -> Result<Picture, Refusal> {
+fn picture_for(n: &Numbers) -> Pictured {
     modes::picture_of(byte(n[0]), flag(n[1]), day_frame(n[2]))
 }
 
-fn sum_for(n: &Numbers) -> Result<Picture, Refusal> {
+fn sum_for(n: &Numbers) -> Pictured {
     modes::add(byte(n[0]), flag(n[1]), first_picture(n), count(n[7]))
 }
 
-fn fields_for(n: &Numbers) -> Result<Picture, Refusal> {
+fn fields_for(n: &Numbers) -> Pictured {
     let p = first_picture(n);
     let a = p.address;
     let frames = a.frames;
@@ -72,7 +75,7 @@ fn fields_for(n: &Numbers) -> Result<Picture, Refusal> {
     )
 }
 
-fn kind_number_for(n: &Numbers) -> Result<Address, Refusal> {
+fn kind_number_for(n: &Numbers) -> Placed {
     let kind = n[0];
     let frame = day_frame(n[1]);
     match kind {
@@ -83,7 +86,7 @@ fn kind_number_for(n: &Numbers) -> Result<Address, Refusal> {
     }
 }
 
-fn kind_fields_for(n: &Numbers) -> Result<Address, Refusal> {
+fn kind_fields_for(n: &Numbers) -> Placed {
     let kind = n[0];
     let a = address_in(n[1], n[2], n[3], n[4]);
     let frames = a.frames;
@@ -95,7 +98,7 @@ fn kind_fields_for(n: &Numbers) -> Result<Address, Refusal> {
     }
 }
 
-fn pair_number_for(n: &Numbers) -> Result<Picture, Refusal> {
+fn pair_number_for(n: &Numbers) -> Pictured {
     let kind = n[0];
     let number = day_frame(n[1]);
     match kind {
@@ -106,7 +109,7 @@ fn pair_number_for(n: &Numbers) -> Result<Picture, Refusal> {
     }
 }
 
-fn pair_fields_for(n: &Numbers) -> Result<Picture, Refusal> {
+fn pair_fields_for(n: &Numbers) -> Pictured {
     let kind = n[0];
     let p = picture_in(n[1], n[2], n[3], n[4], n[5]);
     let a = p.address;
@@ -119,7 +122,7 @@ fn pair_fields_for(n: &Numbers) -> Result<Picture, Refusal> {
     }
 }
 
-fn high_number_for(n: &Numbers) -> Result<Picture, Refusal> {
+fn high_number_for(n: &Numbers) -> Pictured {
     let kind = n[0];
     let number = day_frame(n[1]);
     match kind {
@@ -132,7 +135,7 @@ fn high_number_for(n: &Numbers) -> Result<Picture, Refusal> {
     }
 }
 
-fn high_fields_for(n: &Numbers) -> Result<Picture, Refusal> {
+fn high_fields_for(n: &Numbers) -> Pictured {
     let kind = n[0];
     let p = picture_in(n[1], n[2], n[3], n[4], n[5]);
     let a = p.address;
@@ -148,21 +151,21 @@ fn high_fields_for(n: &Numbers) -> Result<Picture, Refusal> {
 }
 
 // An address that a picture has to itself: its place is 0.
-fn address_told(placed: Result<Address, Refusal>) -> Told
+fn address_told(placed: Placed) -> Told
     ensures { picture_told result ≡ true }
 {
     match placed {
-        Err(number) => Told::Refused(number),
-        Ok(address) => Told::At(Picture { address, place: 0 }),
+        Placed::Refused(number) => Told::Refused(number),
+        Placed::At(address) => Told::At(Picture { address, place: 0 }),
     }
 }
 
-fn picture_told(pictured: Result<Picture, Refusal>) -> Told
+fn picture_told(pictured: Pictured) -> Told
     ensures { picture_told result ≡ true }
 {
     match pictured {
-        Err(number) => Told::Refused(number),
-        Ok(picture) => Told::At(picture),
+        Pictured::Refused(number) => Told::Refused(number),
+        Pictured::At(picture) => Told::At(picture),
     }
 }
 

@@ -1,9 +1,9 @@
 // An address and eight groups as they stand in a line.
 ghost use Rattle.std.specs.Prelude.{◌≡◌, [], ◌∷◌, ◌++◌};
 ghost use Rattle.text.specs.Ascii.{space, line_feed};
-ghost use Rattle.figures.specs.Figures.{colon, two_digits, before_frames, address_text, groups_text};
+ghost use Rattle.figures.specs.Figures.{before_frames, address_text, groups_text};
 
-use rates::{Flag, SecondFrame};
+use rates::{Address, Flag, SecondFrame};
 use record::{Groups, Record};
 use text::hex_digit;
 
@@ -17,9 +17,16 @@ fn before_frames(drop: Flag) -> u8
     }
 }
 
-fn clock_text(hours: u8, minutes: u8, seconds: u8, mark: u8, frames: SecondFrame) -> [u8; 12]
-    ensures { result ≡ space ∷ (two_digits hours ++ (colon ∷ two_digits minutes) ++ (colon ∷ two_digits seconds) ++ (mark ∷ two_digits frames.0)) }
+#[tactic(auto, unfolding(crate::specs::Figures::address_text))]
+pub fn address_text(r: Record) -> [u8; 12]
+    ensures { result ≡ space ∷ address_text r }
 {
+    let Address {
+        hours,
+        minutes,
+        seconds,
+        frames: SecondFrame(frames),
+    } = r.address;
     [
         b' ',
         b'0' + hours / 10 % 10,
@@ -30,22 +37,13 @@ fn clock_text(hours: u8, minutes: u8, seconds: u8, mark: u8, frames: SecondFrame
         b':',
         b'0' + seconds / 10 % 10,
         b'0' + seconds % 10,
-        mark,
-        b'0' + frames.0 / 10 % 10,
-        b'0' + frames.0 % 10,
+        before_frames(r.flags.drop),
+        b'0' + frames / 10 % 10,
+        b'0' + frames % 10,
     ]
 }
 
-pub fn address_text(r: Record) -> [u8; 12]
-    ensures { result ≡ space ∷ address_text r }
-{
-    let a = r.address;
-    let flags = r.flags;
-    let frames = a.frames;
-    let drop = flags.drop;
-    clock_text(a.hours, a.minutes, a.seconds, before_frames(drop), frames)
-}
-
+#[tactic(auto, unfolding(crate::specs::Figures::groups_text))]
 pub fn groups_text(g: Groups) -> [u8; 10]
     ensures { result ≡ (space ∷ groups_text g) ++ (line_feed ∷ []) }
 {

@@ -2,6 +2,7 @@
 ghost use Rattle.std.specs.Prelude.{◌≡◌};
 ghost use Rattle.kinds.specs.Constants.{kind_constants, pair_constants, high_constants};
 
+use crate::counting::CountingMode;
 use crate::frames::{Frames24, Frames25, Frames30, Frames30Drop};
 use crate::high::{Frames72, Frames96, Frames100, Frames120As24x5, Frames120As30x4, Frames120Drop};
 use crate::pairs::{Frames48, Frames50, Frames60, Frames60Drop};

@@ -1,14 +1,10 @@
-// The four counting modes of document 01: each a kind with its own frames in a second and in a day, and two constructors of an address,
-// from a frame number of the day and from clock fields.
-ghost use Rattle.std.specs.Prelude.{◌≡◌};
+// The four counting modes of document 01: each a kind with its own frames in a second and in a day.
+ghost use Rattle.std.specs.Prelude.{refl};
 ghost use Rattle.rates.specs.declared.types.Flag.TheVariants.{No, Yes};
 ghost use Rattle.rates.specs.declared.types.Rate.TheVariants.{At24, At25, At30};
-ghost use Rattle.rates.specs.Face.{showing};
-ghost use Rattle.clock.specs.Calls.{address_of, fields_of};
 
-use clock::{DayFrame, address_from, address_of};
-use rates::{Flag, Rate, SecondFrame, Address};
-use refusals::Refusal;
+use crate::counting::{CountingMode, CountsAddresses};
+use rates::{Flag, Rate};
 
 #[derive(Clone, Copy)]
 pub struct Frames24;
@@ -22,74 +18,122 @@ pub struct Frames30;
 #[derive(Clone, Copy)]
 pub struct Frames30Drop;
 
-impl Frames24 {
-    pub const IN_SECOND: u32 = 24;
+impl CountingMode for Frames24 {
+    const RATE: Rate = Rate::At24;
 
-    pub const IN_DAY: u32 = 2_073_600;
+    const DROP: Flag = Flag::No;
 
-    pub fn from_number(number: DayFrame) -> Result<Address, Refusal>
-        ensures { result ≡ address_of At24 No number }
-    {
-        address_of(Rate::At24, Flag::No, number)
-    }
+    const LAST_PLACE: u8 = 0;
 
-    pub fn from_fields(hours: u8, minutes: u8, seconds: u8, frames: SecondFrame) -> Result<Address, Refusal>
-        ensures { result ≡ fields_of At24 No (showing hours minutes seconds frames.0) }
-    {
-        address_from(Rate::At24, Flag::No, hours, minutes, seconds, frames)
-    }
+    const IN_SECOND: u32 = 24;
+
+    const IN_DAY: u32 = 2_073_600;
+
+    ghost RATE = { At24 };
+
+    ghost DROP = { No };
+
+    ghost LAST_PLACE = { 0 };
+
+    ghost IN_SECOND = { 24 };
+
+    ghost IN_DAY = { 2_073_600 };
+
+    ghost second_is = { refl };
+
+    ghost day_is = { refl };
 }
 
-impl Frames25 {
-    pub const IN_SECOND: u32 = 25;
-
-    pub const IN_DAY: u32 = 2_160_000;
-
-    pub fn from_number(number: DayFrame) -> Result<Address, Refusal>
-        ensures { result ≡ address_of At25 No number }
-    {
-        address_of(Rate::At25, Flag::No, number)
-    }
-
-    pub fn from_fields(hours: u8, minutes: u8, seconds: u8, frames: SecondFrame) -> Result<Address, Refusal>
-        ensures { result ≡ fields_of At25 No (showing hours minutes seconds frames.0) }
-    {
-        address_from(Rate::At25, Flag::No, hours, minutes, seconds, frames)
-    }
+impl CountsAddresses for Frames24 {
+    ghost alone = { refl };
 }
 
-impl Frames30 {
-    pub const IN_SECOND: u32 = 30;
+impl CountingMode for Frames25 {
+    const RATE: Rate = Rate::At25;
 
-    pub const IN_DAY: u32 = 2_592_000;
+    const DROP: Flag = Flag::No;
 
-    pub fn from_number(number: DayFrame) -> Result<Address, Refusal>
-        ensures { result ≡ address_of At30 No number }
-    {
-        address_of(Rate::At30, Flag::No, number)
-    }
+    const LAST_PLACE: u8 = 0;
 
-    pub fn from_fields(hours: u8, minutes: u8, seconds: u8, frames: SecondFrame) -> Result<Address, Refusal>
-        ensures { result ≡ fields_of At30 No (showing hours minutes seconds frames.0) }
-    {
-        address_from(Rate::At30, Flag::No, hours, minutes, seconds, frames)
-    }
+    const IN_SECOND: u32 = 25;
+
+    const IN_DAY: u32 = 2_160_000;
+
+    ghost RATE = { At25 };
+
+    ghost DROP = { No };
+
+    ghost LAST_PLACE = { 0 };
+
+    ghost IN_SECOND = { 25 };
+
+    ghost IN_DAY = { 2_160_000 };
+
+    ghost second_is = { refl };
+
+    ghost day_is = { refl };
 }
 
-impl Frames30Drop {
-    pub const IN_SECOND: u32 = 30; // some seconds begin at 02, and each ends at 29
+impl CountsAddresses for Frames25 {
+    ghost alone = { refl };
+}
 
-    pub const IN_DAY: u32 = 2_589_408;
+impl CountingMode for Frames30 {
+    const RATE: Rate = Rate::At30;
 
-    pub fn from_number(number: DayFrame) -> Result<Address, Refusal>
-        ensures { result ≡ address_of At30 Yes number }
-    {
-        address_of(Rate::At30, Flag::Yes, number)
-    }
+    const DROP: Flag = Flag::No;
 
-    pub fn from_fields(hours: u8, minutes: u8, seconds: u8, frames: SecondFrame) -> Result<Address, Refusal>
-        ensures { result ≡ fields_of At30 Yes (showing hours minutes seconds frames.0) }
-    {
-        address_from(Rate::At30, Flag::Yes, hours, minutes, seconds, frames)
-    }
+    const LAST_PLACE: u8 = 0;
+
+    const IN_SECOND: u32 = 30;
+
+    const IN_DAY: u32 = 2_592_000;
+
+    ghost RATE = { At30 };
+
+    ghost DROP = { No };
+
+    ghost LAST_PLACE = { 0 };
+
+    ghost IN_SECOND = { 30 };
+
+    ghost IN_DAY = { 2_592_000 };
+
+    ghost second_is = { refl };
+
+    ghost day_is = { refl };
+}
+
+impl CountsAddresses for Frames30 {
+    ghost alone = { refl };
+}
+
+impl CountingMode for Frames30Drop {
+    const RATE: Rate = Rate::At30;
+
+    const DROP: Flag = Flag::Yes;
+
+    const LAST_PLACE: u8 = 0;
+
+    const IN_SECOND: u32 = 30; // some seconds begin at 02, and each ends at 29
+
+    const IN_DAY: u32 = 2_589_408;
+
+    ghost RATE = { At30 };
+
+    ghost DROP = { Yes };
+
+    ghost LAST_PLACE = { 0 };
+
+    ghost IN_SECOND = { 30 };
+
+    ghost IN_DAY = { 2_589_408 };
+
+    ghost second_is = { refl };
+
+    ghost day_is = { refl };
+}
+
+impl CountsAddresses for Frames30Drop {
+    ghost alone = { refl };
 }

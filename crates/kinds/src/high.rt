@@ -1,18 +1,13 @@
-// The counting modes of high frame rates, document 02's A6: each a kind with its own pictures in a second and in a day, the
-// place of the last picture that shares an address, and two constructors of a picture, from a picture number of the day and from clock fields with a place.
+// The counting modes of high frame rates, document 02's A6: each a kind with its own pictures in a second and in a day, and the
+// place of the last picture that shares an address.
 //
 // An address is a super-frame, and its frames still end at 23, 24 or 29. It is the pictures of a second that go up to 71, 95, 99 or 119.
-ghost use Rattle.std.specs.Prelude.{◌≡◌};
+ghost use Rattle.std.specs.Prelude.{refl};
 ghost use Rattle.rates.specs.declared.types.Flag.TheVariants.{No, Yes};
 ghost use Rattle.rates.specs.declared.types.Rate.TheVariants.{At24, At25, At30};
-ghost use Rattle.rates.specs.Face.{showing};
-ghost use Rattle.pictures.specs.Pictures.{picture};
-ghost use Rattle.pictures.specs.Calls.{picture_of, fields_of};
 
-use clock::DayFrame;
-use pictures::{picture_from, picture_of, Picture};
-use rates::{Flag, Rate, SecondFrame};
-use refusals::Refusal;
+use crate::counting::{CountingMode, CountsPictures};
+use rates::{Flag, Rate};
 
 #[derive(Clone, Copy)]
 pub struct Frames72;
@@ -32,212 +27,170 @@ pub struct Frames120As30x4;
 #[derive(Clone, Copy)]
 pub struct Frames120Drop;
 
-impl Frames72 {
-    pub const IN_SECOND: u32 = 72;
+impl CountingMode for Frames72 {
+    const RATE: Rate = Rate::At24;
 
-    pub const IN_DAY: u32 = 6_220_800;
+    const DROP: Flag = Flag::No;
 
-    pub const LAST_PLACE: u8 = 2;
+    const LAST_PLACE: u8 = 2;
 
-    pub fn from_number(number: DayFrame) -> Result<Picture, Refusal>
-        ensures { result ≡ picture_of At24 3 No number }
-    {
-        picture_of(Rate::At24, Frames72::LAST_PLACE, Flag::No, number)
-    }
+    const IN_SECOND: u32 = 72;
 
-    pub fn from_fields(
-        hours: u8,
-        minutes: u8,
-        seconds: u8,
-        frames: SecondFrame,
-        place: u8,
-    ) -> Result<Picture, Refusal>
-        ensures { result ≡ fields_of At24 3 No (picture (showing hours minutes seconds frames.0) place) }
-    {
-        picture_from(
-            Rate::At24,
-            Frames72::LAST_PLACE,
-            Flag::No,
-            hours,
-            minutes,
-            seconds,
-            frames,
-            place,
-        )
-    }
+    const IN_DAY: u32 = 6_220_800;
+
+    ghost RATE = { At24 };
+
+    ghost DROP = { No };
+
+    ghost LAST_PLACE = { 2 };
+
+    ghost IN_SECOND = { 72 };
+
+    ghost IN_DAY = { 6_220_800 };
+
+    ghost second_is = { refl };
+
+    ghost day_is = { refl };
 }
 
-impl Frames96 {
-    pub const IN_SECOND: u32 = 96;
+impl CountsPictures for Frames72 {}
 
-    pub const IN_DAY: u32 = 8_294_400;
+impl CountingMode for Frames96 {
+    const RATE: Rate = Rate::At24;
 
-    pub const LAST_PLACE: u8 = 3;
+    const DROP: Flag = Flag::No;
 
-    pub fn from_number(number: DayFrame) -> Result<Picture, Refusal>
-        ensures { result ≡ picture_of At24 4 No number }
-    {
-        picture_of(Rate::At24, Frames96::LAST_PLACE, Flag::No, number)
-    }
+    const LAST_PLACE: u8 = 3;
 
-    pub fn from_fields(
-        hours: u8,
-        minutes: u8,
-        seconds: u8,
-        frames: SecondFrame,
-        place: u8,
-    ) -> Result<Picture, Refusal>
-        ensures { result ≡ fields_of At24 4 No (picture (showing hours minutes seconds frames.0) place) }
-    {
-        picture_from(
-            Rate::At24,
-            Frames96::LAST_PLACE,
-            Flag::No,
-            hours,
-            minutes,
-            seconds,
-            frames,
-            place,
-        )
-    }
+    const IN_SECOND: u32 = 96;
+
+    const IN_DAY: u32 = 8_294_400;
+
+    ghost RATE = { At24 };
+
+    ghost DROP = { No };
+
+    ghost LAST_PLACE = { 3 };
+
+    ghost IN_SECOND = { 96 };
+
+    ghost IN_DAY = { 8_294_400 };
+
+    ghost second_is = { refl };
+
+    ghost day_is = { refl };
 }
 
-impl Frames100 {
-    pub const IN_SECOND: u32 = 100;
+impl CountsPictures for Frames96 {}
 
-    pub const IN_DAY: u32 = 8_640_000;
+impl CountingMode for Frames100 {
+    const RATE: Rate = Rate::At25;
 
-    pub const LAST_PLACE: u8 = 3;
+    const DROP: Flag = Flag::No;
 
-    pub fn from_number(number: DayFrame) -> Result<Picture, Refusal>
-        ensures { result ≡ picture_of At25 4 No number }
-    {
-        picture_of(Rate::At25, Frames100::LAST_PLACE, Flag::No, number)
-    }
+    const LAST_PLACE: u8 = 3;
 
-    pub fn from_fields(
-        hours: u8,
-        minutes: u8,
-        seconds: u8,
-        frames: SecondFrame,
-        place: u8,
-    ) -> Result<Picture, Refusal>
-        ensures { result ≡ fields_of At25 4 No (picture (showing hours minutes seconds frames.0) place) }
-    {
-        picture_from(
-            Rate::At25,
-            Frames100::LAST_PLACE,
-            Flag::No,
-            hours,
-            minutes,
-            seconds,
-            frames,
-            place,
-        )
-    }
+    const IN_SECOND: u32 = 100;
+
+    const IN_DAY: u32 = 8_640_000;
+
+    ghost RATE = { At25 };
+
+    ghost DROP = { No };
+
+    ghost LAST_PLACE = { 3 };
+
+    ghost IN_SECOND = { 100 };
+
+    ghost IN_DAY = { 8_640_000 };
+
+    ghost second_is = { refl };
+
+    ghost day_is = { refl };
 }
 
-impl Frames120As24x5 {
-    pub const IN_SECOND: u32 = 120;
+impl CountsPictures for Frames100 {}
 
-    pub const IN_DAY: u32 = 10_368_000;
+impl CountingMode for Frames120As24x5 {
+    const RATE: Rate = Rate::At24;
 
-    pub const LAST_PLACE: u8 = 4;
+    const DROP: Flag = Flag::No;
 
-    pub fn from_number(number: DayFrame) -> Result<Picture, Refusal>
-        ensures { result ≡ picture_of At24 5 No number }
-    {
-        picture_of(Rate::At24, Frames120As24x5::LAST_PLACE, Flag::No, number)
-    }
+    const LAST_PLACE: u8 = 4;
 
-    pub fn from_fields(
-        hours: u8,
-        minutes: u8,
-        seconds: u8,
-        frames: SecondFrame,
-        place: u8,
-    ) -> Result<Picture, Refusal>
-        ensures { result ≡ fields_of At24 5 No (picture (showing hours minutes seconds frames.0) place) }
-    {
-        picture_from(
-            Rate::At24,
-            Frames120As24x5::LAST_PLACE,
-            Flag::No,
-            hours,
-            minutes,
-            seconds,
-            frames,
-            place,
-        )
-    }
+    const IN_SECOND: u32 = 120;
+
+    const IN_DAY: u32 = 10_368_000;
+
+    ghost RATE = { At24 };
+
+    ghost DROP = { No };
+
+    ghost LAST_PLACE = { 4 };
+
+    ghost IN_SECOND = { 120 };
+
+    ghost IN_DAY = { 10_368_000 };
+
+    ghost second_is = { refl };
+
+    ghost day_is = { refl };
 }
 
-impl Frames120As30x4 {
-    pub const IN_SECOND: u32 = 120;
+impl CountsPictures for Frames120As24x5 {}
 
-    pub const IN_DAY: u32 = 10_368_000;
+impl CountingMode for Frames120As30x4 {
+    const RATE: Rate = Rate::At30;
 
-    pub const LAST_PLACE: u8 = 3;
+    const DROP: Flag = Flag::No;
 
-    pub fn from_number(number: DayFrame) -> Result<Picture, Refusal>
-        ensures { result ≡ picture_of At30 4 No number }
-    {
-        picture_of(Rate::At30, Frames120As30x4::LAST_PLACE, Flag::No, number)
-    }
+    const LAST_PLACE: u8 = 3;
 
-    pub fn from_fields(
-        hours: u8,
-        minutes: u8,
-        seconds: u8,
-        frames: SecondFrame,
-        place: u8,
-    ) -> Result<Picture, Refusal>
-        ensures { result ≡ fields_of At30 4 No (picture (showing hours minutes seconds frames.0) place) }
-    {
-        picture_from(
-            Rate::At30,
-            Frames120As30x4::LAST_PLACE,
-            Flag::No,
-            hours,
-            minutes,
-            seconds,
-            frames,
-            place,
-        )
-    }
+    const IN_SECOND: u32 = 120;
+
+    const IN_DAY: u32 = 10_368_000;
+
+    ghost RATE = { At30 };
+
+    ghost DROP = { No };
+
+    ghost LAST_PLACE = { 3 };
+
+    ghost IN_SECOND = { 120 };
+
+    ghost IN_DAY = { 10_368_000 };
+
+    ghost second_is = { refl };
+
+    ghost day_is = { refl };
 }
 
-impl Frames120Drop {
-    pub const IN_SECOND: u32 = 120; // some seconds begin at 08, and each ends at 119
+impl CountsPictures for Frames120As30x4 {}
 
-    pub const IN_DAY: u32 = 10_357_632;
+impl CountingMode for Frames120Drop {
+    const RATE: Rate = Rate::At30;
 
-    pub const LAST_PLACE: u8 = 3;
+    const DROP: Flag = Flag::Yes;
 
-    pub fn from_number(number: DayFrame) -> Result<Picture, Refusal>
-        ensures { result ≡ picture_of At30 4 Yes number }
-    {
-        picture_of(Rate::At30, Frames120Drop::LAST_PLACE, Flag::Yes, number)
-    }
+    const LAST_PLACE: u8 = 3;
 
-    pub fn from_fields(
-        hours: u8,
-        minutes: u8,
-        seconds: u8,
-        frames: SecondFrame,
-        place: u8,
-    ) -> Result<Picture, Refusal>
-        ensures { result ≡ fields_of At30 4 Yes (picture (showing hours minutes seconds frames.0) place) }
-    {
-        picture_from(
-            Rate::At30,
-            Frames120Drop::LAST_PLACE,
-            Flag::Yes,
-            hours,
-            minutes,
-            seconds,
-            frames,
-            place,
-        )
-    }
+    const IN_SECOND: u32 = 120; // some seconds begin at 08, and each ends at 119
+
+    const IN_DAY: u32 = 10_357_632;
+
+    ghost RATE = { At30 };
+
+    ghost DROP = { Yes };
+
+    ghost LAST_PLACE = { 3 };
+
+    ghost IN_SECOND = { 120 };
+
+    ghost IN_DAY = { 10_357_632 };
+
+    ghost second_is = { refl };
+
+    ghost day_is = { refl };
 }
+
+impl CountsPictures for Frames120Drop {}

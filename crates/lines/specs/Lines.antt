@@ -17,6 +17,10 @@ the_word_refused = 114 ∷ 101 ∷ 102 ∷ 117 ∷ 115 ∷ 101 ∷ 100 ∷ []
 abbrev pub the_word_end : List ℕ
 the_word_end = 101 ∷ 110 ∷ 100 ∷ []
 
+-- a word, a number and the line feed
+abbrev pub numbered : List ℕ → ℕ → List ℕ
+numbered word number = word ++ (decimal number ++ (line_feed ∷ []))
+
 -- what follows the bits so far, up to the line feed
 unfoldable pub accepted_text : Record → List ℕ
 accepted_text r = (space ∷ address_text r) ++ ((space ∷ groups_text r.groups) ++ (line_feed ∷ []))

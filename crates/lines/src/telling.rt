@@ -1,7 +1,7 @@
 // The line of an answer, and the last line.
 ghost use Rattle.std.specs.Prelude.{◌≡◌, ◌+◌, ◌≤◌, length};
 ghost use Rattle.runs.specs.Run.{placed};
-ghost use Rattle.lines.specs.Lines.{accepted_text, refused_text, line_of, end_line_of};
+ghost use Rattle.lines.specs.Lines.{numbered, accepted_text, refused_text, line_of, end_line_of};
 
 use figures::{address_text, groups_text};
 use hearing::Heard;
@@ -15,20 +15,25 @@ fn lay_accepted(r: Record, text: &mut [u8], at: usize) -> usize
     requires { at + 22 ≤ length text.old }
     ensures { (result ≡ at + length (accepted_text r)) × (text.new ≡ placed at (accepted_text r) text.old) }
 {
-    let address = address_text(r);
-    let eight = r.groups;
-    let groups = groups_text(eight);
-    let middle = append(&address, text, at);
-    append(&groups, text, middle)
+    let middle = append(&address_text(r), text, at);
+    append(&groups_text(r.groups), text, middle)
+}
+
+// A word, a number and the line feed.
+fn lay_numbered(word: &[u8], number: u64, text: &mut [u8], at: usize) -> usize
+    requires { at + length (numbered word.now number) ≤ length text.old }
+    ensures { (result ≡ at + length (numbered word.now number)) × (text.new ≡ placed at (numbered word.now number) text.old) }
+{
+    let told = append(word, text, at);
+    let end = append_decimal(number, text, told);
+    append(b"\n", text, end)
 }
 
 fn lay_refused(number: u8, text: &mut [u8], at: usize) -> usize
     requires { at + 13 ≤ length text.old }
     ensures { (result ≡ at + length (refused_text number)) × (text.new ≡ placed at (refused_text number) text.old) }
 {
-    let word = append(b" refused ", text, at);
-    let end = append_decimal(number as u64, text, word);
-    append(b"\n", text, end)
+    lay_numbered(b" refused ", number as u64, text, at)
 }
 
 pub fn line(bits: u64, heard: Heard, text: &mut [u8; ROOM]) -> usize
@@ -51,7 +56,5 @@ pub fn line(bits: u64, heard: Heard, text: &mut [u8; ROOM]) -> usize
 pub fn end_line(bits: u64, text: &mut [u8; ROOM]) -> usize
     ensures { (result ≡ length (end_line_of bits)) × (text.new ≡ placed 0 (end_line_of bits) text.old) }
 {
-    let word = append(b"end ", text, 0);
-    let end = append_decimal(bits, text, word);
-    append(b"\n", text, end)
+    lay_numbered(b"end ", bits, text, 0)
 }

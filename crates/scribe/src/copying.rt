@@ -1,5 +1,5 @@
 // A piece of characters to its bits, bits to answers, and answers to lines.
-ghost use Rattle.std.specs.Prelude.{◌≡◌, ◌≤◌, min};
+ghost use Rattle.std.specs.Prelude.{◌≡◌, ◌≤◌};
 ghost use Rattle.following.specs.Reach.{answers};
 ghost use Rattle.bits.specs.Bits.{AllBits};
 ghost use Rattle.runs.specs.Run.{placed};
@@ -56,33 +56,21 @@ fn told_run(reader: Reader, bits: u64, run: &[u8], out: &mut [u8]) -> Block
     requires { Ready reader run.now out.old × AllBits run.now }
     ensures { (result ≡ run_told reader bits run.now) × (out.new ≡ placed 0 (lines_of bits (answers reader run.now)) out.old) }
 {
-    let mut now = reader;
-    let mut so_far = bits;
-    let mut at: usize = 0;
-    let mut done: usize = 0;
-    let end = run.len();
-    while done < end {
-        let block = told_block(now, so_far, &run[done..], out, at);
-        now = block.reader;
-        so_far = block.bits;
-        at = block.at;
-        done += block.taken;
+    let mut told = Block {
+        reader,
+        bits,
+        taken: 0,
+        at: 0,
+    };
+    let mut rest = run;
+    while !rest.is_empty() {
+        told = told_block(told.reader, told.bits, rest, out, told.at);
+        rest = &rest[told.taken..];
     }
     Block {
-        reader: now,
-        bits: so_far,
-        taken: done,
-        at,
+        taken: run.len(),
+        ..told
     }
-}
-
-fn lesser(a: usize, b: usize) -> usize
-    ensures { result ≡ min a b }
-{
-    if a < b {
-        return a;
-    }
-    b
 }
 
 // How many characters may still come, when so many have come: none where one of them ends the reading, or none came.
@@ -102,7 +90,7 @@ fn telling(before: Scribe, characters: &mut [u8], out: &mut [u8]) -> Telling
     requires { Ready before.reader characters.old out.old }
     ensures { (result ≡ telling_of before characters.old) × (characters.new ≡ placed 0 (bits_in (counted before characters.old)) characters.old) × (out.new ≡ placed 0 (text_of before characters.old) out.old) }
 {
-    let end = lesser(before.left, characters.len());
+    let end = before.left.min(characters.len());
     let sifted = characters::sift(&mut characters[..end]);
     let bits = sifted.bits;
     let reader = before.reader;

@@ -1,4 +1,4 @@
--- The loop over a text begins, goes on and ends.
+-- A text that is laid into a run element by element, as a loop would, is placed there in the end: it begins, goes on and ends.
 -- Assumes nothing.
 use Prim.Native.Nat.{ℕ, suc, ◌+◌, ◌≤◌, ◌<◌}
 use mathlib.Core.Path.{◌≡◌, sym, ap, ◌∙◌}

@@ -1,5 +1,5 @@
 -- Laid      a word put into a run: side by side, one element more, what stands past it
--- Lays      the loop over a text begins, goes on and ends
+-- Lays      a text laid element by element begins, goes on and ends
 -- Appends   text appended where there is room stands whole, one after the other
 -- Spelled   a number's decimal digits
 pub mod Laid

@@ -4,5 +4,5 @@
 pub mod Ascii
 pub mod Numerals
 pub mod Gathered
--- Loops        what holds at each turn of the loop
+-- Loops        what holds of a text that is laid element by element
 pub mod Loops

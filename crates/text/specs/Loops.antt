@@ -1,4 +1,4 @@
--- What holds at each turn of the loop, over plain values.
+-- What holds of a text that is laid into a run element by element, over plain values.
 -- Assumes nothing.
 use Rattle.std.specs.Prelude.{ℕ, ◌+◌, ◌≤◌, ◌≡◌, List, length, take}
 use Rattle.runs.specs.Run.{placed}

@@ -13,6 +13,8 @@ pub fn append_decimal(number: u64, text: &mut [u8], at: usize) -> usize
     append(&room[..count], text, at)
 }
 
+// By hand, since the digits of `io` and of the library are lower-case.
+#[tactic(auto, unfolding(crate::specs::Numerals::hex_digit))]
 pub fn hex_digit(number: u8) -> u8
     ensures { result ≡ hex_digit number }
 {

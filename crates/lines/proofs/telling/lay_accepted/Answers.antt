@@ -25,4 +25,4 @@ accepted r text at {address} {groups} fits first second mid out =
     rw (first, second) at (two_stand at address groups text fits mid out)
 
 pub returns : goal.returns
-returns c = accepted _ _ _ (search rules) c.address_text-address.ensures c.groups_text-groups.ensures c.append-middle.ensures c.append.ensures
+returns c = accepted _ _ _ (search rules) c.address_text.ensures c.groups_text.ensures c.append-middle.ensures c.append.ensures

@@ -1,29 +1,31 @@
--- `lines::telling::lay_refused` meets its contract: the word, the number and the line feed, one after the other.
+-- `lines::telling::lay_refused` meets its contract: the number of a refusal has at most three digits, and the word and it are the refused text.
 -- Assumes nothing.
 use borrow.Author.Rules.{rules}
 use Prim.Native.Nat.{ℕ, ◌+◌, ◌≤◌, ◌<◌}
 use mathlib.Core.List.{List, [], ◌∷◌, ◌++◌}
 use native.Mathlib.Omega.{arith}
-use lib.ListN.{length}
-use Rattle.text.specs.Ascii.{space, line_feed}
+use lib.ListN.{length, length-append}
+use Rattle.text.specs.Ascii.{space}
 use Rattle.text.specs.Numerals.{decimal}
-use Rattle.text.proofs.Appends.{Appended, Stands, three_stand}
+use Rattle.text.proofs.Appends.{Stands}
 use Rattle.text.proofs.Spelled.{few_digits}
-use Rattle.lines.specs.Lines.{the_word_refused, refused_text}
+use Rattle.lines.specs.Lines.{the_word_refused, numbered, refused_text}
 use Rattle.lines.proofs.telling.lay_refused.Goals as goal
 
-refused :
-    (number : ℕ) (text : List ℕ) (at : ℕ) {p q r : ℕ} {one two three : List ℕ}
-    → number < 256
-    → at + 13 ≤ length text
-    → Appended (space ∷ (the_word_refused ++ (space ∷ []))) at text p one
-    → Appended (decimal number) p one q two
-    → Appended (line_feed ∷ []) q two r three
-    → Stands (refused_text number) at text r three
-unfolding refused_text
-refused number text at low room =
+abbrev the_word : List ℕ
+the_word = space ∷ (the_word_refused ++ (space ∷ []))
+
+short : (number at size : ℕ) → number < 256 → at + 13 ≤ size → at + length (numbered the_word number) ≤ size
+short number at size low room =
     let few : length (decimal number) ≤ 3 = few_digits 20 2 number (omega arith) in
-    three_stand at (space ∷ (the_word_refused ++ (space ∷ []))) (decimal number) (line_feed ∷ []) text (omega arith)
+    simp length-append (omega arith)
+
+refused : (number at : ℕ) (text : List ℕ) {place : ℕ} {after : List ℕ} → Stands (numbered the_word number) at text place after → Stands (refused_text number) at text place after
+unfolding refused_text
+refused number at text told = told
+
+pub lay_numbered-requires : goal.lay_numbered-requires
+lay_numbered-requires c = short _ _ _ (search rules) (search rules)
 
 pub returns : goal.returns
-returns c = refused _ _ _ (search rules) (search rules) c.append-word.ensures c.append_decimal-end.ensures c.append.ensures
+returns c = refused _ _ _ c.lay_numbered.ensures
