@@ -1,40 +1,11 @@
 // Fields that are bytes, a picture, a record, and what was found beside it.
-ghost use Rattle.std.specs.Prelude.{◌≤◌, length};
-ghost use Rattle.answers.specs.Places.{Onward};
+ghost use Rattle.answers.specs.Places.{Extended};
 
-use crate::numbers::put_number;
-use crate::text::put_text;
+use crate::text::Answer;
 use pictures::Picture;
 use polarity::Found;
 use rates::Flag;
 use record::Record;
-
-pub fn put_byte(out: &mut [u8], at: usize, byte: u8) -> usize
-    ensures { Onward at (length out.old) result }
-{
-    put_number(out, at, byte as u64)
-}
-
-fn put_bytes(out: &mut [u8], at: usize, bytes: &[u8]) -> usize
-    ensures { Onward at (length out.old) result }
-{
-    let mut next = at;
-    for i in 0..bytes.len() {
-        next = put_byte(out, next, bytes[i]);
-    }
-    next
-}
-
-// `address H M S F P`.
-pub fn put_picture(out: &mut [u8], picture: Picture) -> usize
-    ensures { result ≤ length out.old }
-{
-    let next = put_text(out, 0, b"address");
-    let a = picture.address;
-    let frames = a.frames;
-    let fields = [a.hours, a.minutes, a.seconds, frames.0, picture.place];
-    put_bytes(out, next, &fields)
-}
 
 fn bit(flag: Flag) -> u8 {
     match flag {
@@ -44,46 +15,34 @@ fn bit(flag: Flag) -> u8 {
 }
 
 // RECORD: `H M S F drop colour mark bgf0 bgf1 bgf2 G1 .. G8 P`.
-fn fields_of(r: Record) -> [u8; 19] {
-    let a = r.address;
-    let f = r.flags;
-    let g = r.groups;
-    let frames = a.frames;
-    let drop = f.drop;
-    let colour = f.colour;
-    let mark = f.mark;
-    let bgf0 = f.bgf0;
-    let bgf1 = f.bgf1;
-    let bgf2 = f.bgf2;
+fn fields_of(record: Record) -> [u8; 19] {
+    let Record {
+        address,
+        flags,
+        groups,
+        place,
+    } = record;
     [
-        a.hours,
-        a.minutes,
-        a.seconds,
-        frames.0,
-        bit(drop),
-        bit(colour),
-        bit(mark),
-        bit(bgf0),
-        bit(bgf1),
-        bit(bgf2),
-        g.group1,
-        g.group2,
-        g.group3,
-        g.group4,
-        g.group5,
-        g.group6,
-        g.group7,
-        g.group8,
-        r.place,
+        address.hours,
+        address.minutes,
+        address.seconds,
+        address.frames.0,
+        bit(flags.drop),
+        bit(flags.colour),
+        bit(flags.mark),
+        bit(flags.bgf0),
+        bit(flags.bgf1),
+        bit(flags.bgf2),
+        groups.group1,
+        groups.group2,
+        groups.group3,
+        groups.group4,
+        groups.group5,
+        groups.group6,
+        groups.group7,
+        groups.group8,
+        place,
     ]
-}
-
-pub fn put_record(out: &mut [u8], record: Record) -> usize
-    ensures { result ≤ length out.old }
-{
-    let next = put_text(out, 0, b"record");
-    let fields = fields_of(record);
-    put_bytes(out, next, &fields)
 }
 
 // "FOUND is 0 where a linear word was found corrected, 1 where uncorrected".
@@ -94,10 +53,48 @@ fn found_number(found: Found) -> u8 {
     }
 }
 
-// `record RECORD FOUND`, of a linear word.
-pub fn put_read(out: &mut [u8], record: Record, found: Found) -> usize
-    ensures { result ≤ length out.old }
-{
-    let next = put_record(out, record);
-    put_byte(out, next, found_number(found))
+impl<'a> Answer<'a> {
+    pub fn put_byte(&mut self, byte: u8)
+        ensures { Extended self.old self.new }
+    {
+        self.put_number(u64::from(byte));
+    }
+
+    fn put_bytes(&mut self, bytes: &[u8])
+        ensures { Extended self.old self.new }
+    {
+        for byte in bytes {
+            self.put_byte(*byte);
+        }
+    }
+
+    // `address H M S F P`.
+    pub fn put_picture(&mut self, picture: Picture)
+        ensures { Extended self.old self.new }
+    {
+        let Picture { address, place } = picture;
+        self.put_text(b"address");
+        self.put_bytes(&[
+            address.hours,
+            address.minutes,
+            address.seconds,
+            address.frames.0,
+            place,
+        ]);
+    }
+
+    pub fn put_record(&mut self, record: Record)
+        ensures { Extended self.old self.new }
+    {
+        self.put_text(b"record");
+        self.put_bytes(&fields_of(record));
+    }
+
+    // `record RECORD FOUND`, of a linear word.
+    pub fn put_read(&mut self, record: Record, found: Found)
+        ensures { Extended self.old self.new }
+    {
+        self.put_record(record);
+        self.put_byte(found_number(found));
+    }
 }

@@ -1,24 +1,37 @@
-// Text as it is.
-ghost use Rattle.std.specs.Prelude.{length};
-ghost use Rattle.answers.specs.Places.{Onward};
+// An answer, as far as it was put together, and text as it is.
+ghost use Rattle.std.specs.Prelude.{◌≡◌, length};
+ghost use Rattle.answers.specs.Places.{Extended};
 
-// One byte; nothing where no place is left.
-pub fn put(out: &mut [u8], at: usize, byte: u8) -> usize
-    ensures { Onward at (length out.old) result }
-{
-    if at < out.len() {
-        out[at] = byte;
-        return at + 1;
-    }
-    at
+// The run that is lent for an answer, and where its next byte goes.
+#[derive(Drop)]
+pub struct Answer<'a> {
+    pub room: &'a mut [u8],
+    pub length: usize,
 }
 
-pub fn put_text(out: &mut [u8], at: usize, text: &[u8]) -> usize
-    ensures { Onward at (length out.old) result }
-{
-    let mut next = at;
-    for i in 0..text.len() {
-        next = put(out, next, text[i]);
+impl<'a> Answer<'a> {
+    pub fn start(room: &'a mut [u8]) -> Answer<'a>
+        ensures empty { result.length ≡ 0 }
+        ensures whole { length result.room.now ≡ length room.old }
+    {
+        Answer { room, length: 0 }
     }
-    next
+
+    // One byte; nothing where no place is left.
+    pub fn put(&mut self, byte: u8)
+        ensures { Extended self.old self.new }
+    {
+        if self.length < self.room.len() {
+            self.room[self.length] = byte;
+            self.length += 1;
+        }
+    }
+
+    pub fn put_text(&mut self, text: &[u8])
+        ensures { Extended self.old self.new }
+    {
+        for byte in text {
+            self.put(*byte);
+        }
+    }
 }

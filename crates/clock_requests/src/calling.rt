@@ -1,152 +1,169 @@
 // The calls of the clock by mode, and the constructors of its kinds.
-ghost use Rattle.std.specs.Prelude.{◌≡◌, true};
+ghost use Rattle.std.specs.Prelude.{◌≡◌, true, IfSome};
 ghost use Rattle.clock_requests.specs.Telling.{number_told, span_told, picture_told, may_tell};
 
-use crate::types::{Call, Told};
+use crate::types::{Call, Given, Told};
 use clock::{Numbered, Placed, Span};
 use kinds::{
     CountsAddresses, CountsPictures, Frames24, Frames25, Frames30, Frames30Drop, Frames48,
     Frames50, Frames60, Frames60Drop, Frames72, Frames96, Frames100, Frames120As24x5,
     Frames120As30x4, Frames120Drop,
 };
-use layout::flag;
 use pictures::{InSecond, Picture, Pictured};
-use requests::{Numbers, address_in, byte, count, day_frame, picture_in};
+use rates::Flag;
+use requests::{Field, Fields};
 
-// The picture that follows MODE and DROP.
-fn first_picture(n: &Numbers) -> Picture {
-    picture_in(n[2], n[3], n[4], n[5], n[6])
+// `MODE DROP H M S F P`, and nothing after it.
+fn last_picture(mut fields: Fields) -> Option<(u8, Flag, Picture)> {
+    let mode = fields.byte()?;
+    let drop = fields.flag()?;
+    let picture = fields.picture()?;
+    fields.end()?;
+    Some((mode, drop, picture))
 }
 
-fn second_picture(n: &Numbers) -> Picture {
-    picture_in(n[7], n[8], n[9], n[10], n[11])
-}
-
-fn number_for(n: &Numbers) -> Told
-    ensures { number_told result ≡ true }
+fn number_for(fields: Fields) -> Option<Told>
+    ensures { IfSome result (λ told. number_told told ≡ true) }
 {
-    let numbered = modes::number_of(byte(n[0]), flag(n[1]), first_picture(n));
-    match numbered {
+    let (mode, drop, picture) = last_picture(fields)?;
+    Some(match modes::number_of(mode, drop, picture) {
         Numbered::Refused(number) => Told::Refused(number),
-        Numbered::Number(frame) => Told::Number(frame.0 as u64),
-    }
+        Numbered::Number(frame) => Told::Number(u64::from(frame.0)),
+    })
 }
 
-fn in_second_for(n: &Numbers) -> Told
-    ensures { number_told result ≡ true }
+fn in_second_for(fields: Fields) -> Option<Told>
+    ensures { IfSome result (λ told. number_told told ≡ true) }
 {
-    let counted = modes::number_in_second(byte(n[0]), flag(n[1]), first_picture(n));
-    match counted {
+    let (mode, drop, picture) = last_picture(fields)?;
+    Some(match modes::number_in_second(mode, drop, picture) {
         InSecond::Refused(number) => Told::Refused(number),
-        InSecond::Number(picture) => Told::Number(picture.0 as u64),
-    }
+        InSecond::Number(picture) => Told::Number(u64::from(picture.0)),
+    })
 }
 
-fn distance_for(n: &Numbers) -> Told
-    ensures { span_told result ≡ true }
+fn distance_for(mut fields: Fields) -> Option<Told>
+    ensures { IfSome result (λ told. span_told told ≡ true) }
 {
-    let span = modes::distance(byte(n[0]), flag(n[1]), first_picture(n), second_picture(n));
-    match span {
+    let mode = fields.byte()?;
+    let drop = fields.flag()?;
+    let from = fields.picture()?;
+    let to = fields.picture()?;
+    fields.end()?;
+    Some(match modes::distance(mode, drop, from, to) {
         Span::Refused(number) => Told::Refused(number),
         Span::Frames(frames) => Told::Frames(frames),
+    })
+}
+
+fn address_for(mut fields: Fields) -> Option<Pictured> {
+    let mode = fields.byte()?;
+    let drop = fields.flag()?;
+    let number = fields.day_frame()?;
+    fields.end()?;
+    Some(modes::picture_of(mode, drop, number))
+}
+
+fn sum_for(mut fields: Fields) -> Option<Pictured> {
+    let mode = fields.byte()?;
+    let drop = fields.flag()?;
+    let picture = fields.picture()?;
+    let count = fields.count()?;
+    fields.end()?;
+    Some(modes::add(mode, drop, picture, count))
+}
+
+fn fields_for(fields: Fields) -> Option<Pictured> {
+    let (mode, drop, picture) = last_picture(fields)?;
+    let Picture { address, place } = picture;
+    Some(modes::picture_from(
+        mode,
+        drop,
+        address.hours,
+        address.minutes,
+        address.seconds,
+        address.frames,
+        place,
+    ))
+}
+
+// `KIND N`.
+fn number_given(mut fields: Fields, kinds: Field) -> Option<(u64, Given)> {
+    let kind = fields.number(kinds)?;
+    let number = fields.day_frame()?;
+    fields.end()?;
+    Some((kind, Given::Number(number)))
+}
+
+// `KIND H M S F`.
+fn address_given(mut fields: Fields) -> Option<(u64, Given)> {
+    let kind = fields.number(Field::Kind)?;
+    let address = fields.address()?;
+    fields.end()?;
+    Some((kind, Given::Fields(Picture { address, place: 0 })))
+}
+
+// `KIND H M S F P`.
+fn picture_given(mut fields: Fields, kinds: Field) -> Option<(u64, Given)> {
+    let kind = fields.number(kinds)?;
+    let picture = fields.picture()?;
+    fields.end()?;
+    Some((kind, Given::Fields(picture)))
+}
+
+fn address_in<K: CountsAddresses>(given: Given) -> Placed {
+    match given {
+        Given::Number(number) => K::from_number(number),
+        Given::Fields(Picture { address, .. }) => {
+            K::from_fields(
+                address.hours,
+                address.minutes,
+                address.seconds,
+                address.frames,
+            )
+        }
     }
 }
 
-fn picture_for(n: &Numbers) -> Pictured {
-    modes::picture_of(byte(n[0]), flag(n[1]), day_frame(n[2]))
-}
-
-fn sum_for(n: &Numbers) -> Pictured {
-    modes::add(byte(n[0]), flag(n[1]), first_picture(n), count(n[7]))
-}
-
-fn fields_for(n: &Numbers) -> Pictured {
-    let p = first_picture(n);
-    let a = p.address;
-    let frames = a.frames;
-    modes::picture_from(
-        byte(n[0]),
-        flag(n[1]),
-        a.hours,
-        a.minutes,
-        a.seconds,
-        frames,
-        p.place,
-    )
-}
-
-fn kind_number_for(n: &Numbers) -> Placed {
-    let kind = n[0];
-    let frame = day_frame(n[1]);
-    match kind {
-        0 => Frames24::from_number(frame),
-        1 => Frames25::from_number(frame),
-        2 => Frames30::from_number(frame),
-        _ => Frames30Drop::from_number(frame),
+fn picture_in<K: CountsPictures>(given: Given) -> Pictured {
+    match given {
+        Given::Number(number) => K::from_number(number),
+        Given::Fields(Picture { address, place }) => K::from_fields(
+            address.hours,
+            address.minutes,
+            address.seconds,
+            address.frames,
+            place,
+        ),
     }
 }
 
-fn kind_fields_for(n: &Numbers) -> Placed {
-    let kind = n[0];
-    let a = address_in(n[1], n[2], n[3], n[4]);
-    let frames = a.frames;
+fn kind_for((kind, given): (u64, Given)) -> Placed {
     match kind {
-        0 => Frames24::from_fields(a.hours, a.minutes, a.seconds, frames),
-        1 => Frames25::from_fields(a.hours, a.minutes, a.seconds, frames),
-        2 => Frames30::from_fields(a.hours, a.minutes, a.seconds, frames),
-        _ => Frames30Drop::from_fields(a.hours, a.minutes, a.seconds, frames),
+        0 => address_in::<Frames24>(given),
+        1 => address_in::<Frames25>(given),
+        2 => address_in::<Frames30>(given),
+        _ => address_in::<Frames30Drop>(given),
     }
 }
 
-fn pair_number_for(n: &Numbers) -> Pictured {
-    let kind = n[0];
-    let number = day_frame(n[1]);
+fn pair_for((kind, given): (u64, Given)) -> Pictured {
     match kind {
-        0 => Frames48::from_number(number),
-        1 => Frames50::from_number(number),
-        2 => Frames60::from_number(number),
-        _ => Frames60Drop::from_number(number),
+        0 => picture_in::<Frames48>(given),
+        1 => picture_in::<Frames50>(given),
+        2 => picture_in::<Frames60>(given),
+        _ => picture_in::<Frames60Drop>(given),
     }
 }
 
-fn pair_fields_for(n: &Numbers) -> Pictured {
-    let kind = n[0];
-    let p = picture_in(n[1], n[2], n[3], n[4], n[5]);
-    let a = p.address;
-    let frames = a.frames;
+fn high_for((kind, given): (u64, Given)) -> Pictured {
     match kind {
-        0 => Frames48::from_fields(a.hours, a.minutes, a.seconds, frames, p.place),
-        1 => Frames50::from_fields(a.hours, a.minutes, a.seconds, frames, p.place),
-        2 => Frames60::from_fields(a.hours, a.minutes, a.seconds, frames, p.place),
-        _ => Frames60Drop::from_fields(a.hours, a.minutes, a.seconds, frames, p.place),
-    }
-}
-
-fn high_number_for(n: &Numbers) -> Pictured {
-    let kind = n[0];
-    let number = day_frame(n[1]);
-    match kind {
-        0 => Frames72::from_number(number),
-        1 => Frames96::from_number(number),
-        2 => Frames100::from_number(number),
-        3 => Frames120As24x5::from_number(number),
-        4 => Frames120As30x4::from_number(number),
-        _ => Frames120Drop::from_number(number),
-    }
-}
-
-fn high_fields_for(n: &Numbers) -> Pictured {
-    let kind = n[0];
-    let p = picture_in(n[1], n[2], n[3], n[4], n[5]);
-    let a = p.address;
-    let frames = a.frames;
-    match kind {
-        0 => Frames72::from_fields(a.hours, a.minutes, a.seconds, frames, p.place),
-        1 => Frames96::from_fields(a.hours, a.minutes, a.seconds, frames, p.place),
-        2 => Frames100::from_fields(a.hours, a.minutes, a.seconds, frames, p.place),
-        3 => Frames120As24x5::from_fields(a.hours, a.minutes, a.seconds, frames, p.place),
-        4 => Frames120As30x4::from_fields(a.hours, a.minutes, a.seconds, frames, p.place),
-        _ => Frames120Drop::from_fields(a.hours, a.minutes, a.seconds, frames, p.place),
+        0 => picture_in::<Frames72>(given),
+        1 => picture_in::<Frames96>(given),
+        2 => picture_in::<Frames100>(given),
+        3 => picture_in::<Frames120As24x5>(given),
+        4 => picture_in::<Frames120As30x4>(given),
+        _ => picture_in::<Frames120Drop>(given),
     }
 }
 
@@ -169,21 +186,21 @@ fn picture_told(pictured: Pictured) -> Told
     }
 }
 
-pub fn told_for(call: Call, n: &Numbers) -> Told
-    ensures { may_tell call result ≡ true }
+pub fn told_for(call: Call, fields: Fields) -> Option<Told>
+    ensures { IfSome result (λ told. may_tell call told ≡ true) }
 {
     match call {
-        Call::Number => number_for(n),
-        Call::InSecond => in_second_for(n),
-        Call::Address => picture_told(picture_for(n)),
-        Call::Distance => distance_for(n),
-        Call::Add => picture_told(sum_for(n)),
-        Call::Fields => picture_told(fields_for(n)),
-        Call::KindNumber => address_told(kind_number_for(n)),
-        Call::KindFields => address_told(kind_fields_for(n)),
-        Call::PairNumber => picture_told(pair_number_for(n)),
-        Call::PairFields => picture_told(pair_fields_for(n)),
-        Call::HighNumber => picture_told(high_number_for(n)),
-        Call::HighFields => picture_told(high_fields_for(n)),
+        Call::Number => number_for(fields),
+        Call::InSecond => in_second_for(fields),
+        Call::Address => Some(picture_told(address_for(fields)?)),
+        Call::Distance => distance_for(fields),
+        Call::Add => Some(picture_told(sum_for(fields)?)),
+        Call::Fields => Some(picture_told(fields_for(fields)?)),
+        Call::KindNumber => Some(address_told(kind_for(number_given(fields, Field::Kind)?))),
+        Call::KindFields => Some(address_told(kind_for(address_given(fields)?))),
+        Call::PairNumber => Some(picture_told(pair_for(number_given(fields, Field::Kind)?))),
+        Call::PairFields => Some(picture_told(pair_for(picture_given(fields, Field::Kind)?))),
+        Call::HighNumber => Some(picture_told(high_for(number_given(fields, Field::HighKind)?))),
+        Call::HighFields => Some(picture_told(high_for(picture_given(fields, Field::HighKind)?))),
     }
 }

@@ -1,4 +1,5 @@
 // What is asked for, and what is told.
+use clock::DayFrame;
 use pictures::Picture;
 
 #[derive(Clone, Copy)]
@@ -17,10 +18,11 @@ pub enum Call {
     HighFields,
 }
 
+// What a constructor of a kind makes its picture from.
 #[derive(Clone, Copy)]
-pub enum Request {
-    For(Call),
-    Another,
+pub enum Given {
+    Number(DayFrame),
+    Fields(Picture),
 }
 
 // What a call told, whichever call it was.

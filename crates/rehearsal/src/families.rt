@@ -1,38 +1,23 @@
-// The families of requests, one after the other. A family answers how many characters the answer has, and 0 where the line is none of its
-// requests: another name, or fields that are not what they must be.
+// The families of requests, one after the other: each answers how many characters the answer has, unless the line is none of its requests
+// by its name or its fields.
 ghost use Rattle.std.specs.Prelude.{◌≤◌, length};
 
-use answers::put_text;
-
-// One for each arm of `answer_of` but the last.
-const FAMILIES: usize = 3;
+use answers::Answer;
 
 // "A line that is no request gets `unknown`."
 pub fn put_unknown(out: &mut [u8]) -> usize
     ensures { result ≤ length out.old }
 {
-    put_text(out, 0, b"unknown")
-}
-
-fn answer_of(family: usize, line: &[u8], out: &mut [u8]) -> usize
-    ensures { result ≤ length out.old }
-{
-    match family {
-        0 => clock_requests::answer(line, out),
-        1 => word_requests::answer(line, out),
-        2 => reader_requests::answer(line, out),
-        _ => 0,
-    }
+    let mut answer = Answer::start(out);
+    answer.put_text(b"unknown");
+    answer.length
 }
 
 pub fn answer(line: &[u8], out: &mut [u8]) -> usize
     ensures { result ≤ length out.old }
 {
-    for family in 0..FAMILIES {
-        let end = answer_of(family, line, out);
-        if 0 < end {
-            return end;
-        }
-    }
-    put_unknown(out)
+    clock_requests::answer(line, out)
+        .or_else(|| word_requests::answer(line, out))
+        .or_else(|| reader_requests::answer(line, out))
+        .unwrap_or_else(|| put_unknown(out))
 }

@@ -1,18 +1,50 @@
-// How far the reading is.
+// A line of the input, and how the reading of it ended.
+ghost use Rattle.std.specs.Prelude.{◌≡◌};
 
-// How many characters the line has so far, and whether the output still takes answers.
+use requests::LONGEST_LINE;
+
+// What came past the last place was not kept: a line so long is no request.
 #[derive(Clone, Copy)]
-pub struct Progress {
-    pub length: usize,
-    pub open: bool,
+pub struct Line {
+    kept: [u8; LONGEST_LINE],
+    came: usize,
 }
 
-// How the reading ended: the characters of a last line that no line feed ends, how many pieces were answered, how many bytes the last
-// read brought, and whether the output still takes answers.
+impl Line {
+    pub fn new() -> Line {
+        Line {
+            kept: [0; LONGEST_LINE],
+            came: 0,
+        }
+    }
+
+    pub fn clear(&mut self) {
+        self.came = 0;
+    }
+
+    pub fn push(&mut self, byte: u8) {
+        if self.came < LONGEST_LINE {
+            self.kept[self.came] = byte;
+            self.came += 1;
+        } else {
+            self.came = LONGEST_LINE + 1;
+        }
+    }
+
+    pub fn is_empty(&self) -> bool {
+        self.came == 0
+    }
+
+    pub fn text(&self) -> Option<&[u8]> {
+        self.kept.get(..self.came)
+    }
+}
+
+// Why the reading ended, where the output took each answer.
 #[derive(Clone, Copy)]
-pub struct End {
-    pub length: usize,
-    pub pieces: u64,
-    pub came: usize,
-    pub open: bool,
+pub enum End {
+    // A read brought nothing.
+    Input,
+    // So many pieces were answered.
+    Pieces(u64),
 }

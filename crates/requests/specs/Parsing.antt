@@ -1,33 +1,25 @@
--- What is told of a number, and the most that a field may hold.
+-- The most that a field may hold, and an address in the numbers of a request.
 -- Assumes nothing.
-use Rattle.std.specs.Prelude.{ℕ, ◌+◌, ◌%◌, ◌≤◌, ◌<◌, cond, List, eqb, get_or}
+use Rattle.std.specs.Prelude.{ℕ, ◌+◌, ◌%◌, ◌≤◌, ◌<◌, List, get_or}
 use Rattle.rates.specs.declared.types.Address.{Address}
 use Rattle.rates.specs.Face.{showing}
-use Rattle.requests.specs.declared.types.Parsed.{Parsed}
-use Rattle.requests.specs.declared.types.Parsed.TheVariants.{Value, Unsound}
+use Rattle.requests.specs.declared.types.Field.{Field}
+use Rattle.requests.specs.declared.types.Field.TheVariants.{Byte, Count, Flag, Kind, HighKind, Length, Number, Start}
 
--- the number that was told, and 0 where none was
-abbrev pub value_of : Parsed → ℕ
-value_of (Value n) = n
-value_of Unsound = 0
+-- the most that a field may hold; a count is kept as how far it is above the lowest
+abbrev pub limit_of : Field → ℕ
+limit_of Byte = 255
+limit_of Count = 4294967295
+limit_of Flag = 1
+limit_of Kind = 3
+limit_of HighKind = 5
+limit_of Length = 400
+limit_of Number = 4294967295
+limit_of Start = 18446744073709551615
 
--- the most that a field may hold, by its letter: f, k, h, b, l, n, and s
-unfoldable pub plain_limit : ℕ → ℕ
-plain_limit letter =
-    cond (eqb letter 102) 1
-    (cond (eqb letter 107) 3
-    (cond (eqb letter 104) 5
-    (cond (eqb letter 98) 255
-    (cond (eqb letter 108) 400
-    (cond (eqb letter 110) 4294967295 18446744073709551615)))))
-
--- the same with c, for a count that is kept as how far it is above the lowest
-unfoldable pub limit_of : ℕ → ℕ
-limit_of letter = cond (eqb letter 99) 4294967295 (plain_limit letter)
-
--- each of the first so many numbers is within the limit of its letter
-pub record Limited (form numbers : List ℕ) (count : ℕ) : Type 0 where
-  pub limit : (i : ℕ) → i < count → get_or numbers i 0 ≤ limit_of (get_or form i 0)
+-- each of the first so many numbers is within the limit of its field
+pub record Limited (form : List Field) (numbers : List ℕ) (count : ℕ) : Type 0 where
+  pub limit : (i : ℕ) → i < count → get_or numbers i 0 ≤ limit_of (get_or form i Byte)
 
 -- the address that four numbers of a request are, from the place on
 abbrev pub address_from : ℕ → List ℕ → Address

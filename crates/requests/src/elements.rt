@@ -1,91 +1,63 @@
 // Fields that hold the elements of a run: BITS and WORDS, `-` for the empty run.
-ghost use Rattle.std.specs.Prelude.{◌≤◌, ◌<◌, length};
+ghost use Rattle.std.specs.Prelude.{◌≤◌, length, IfSome, IsNone};
 
-use crate::fields::{NOWHERE, digit_of, field_at, is_same, number_in, part_at};
-use crate::types::{Parsed, Run};
+use crate::fields::Fields;
+use crate::numbers::{digit_of, number_in};
 
-// So many elements, if there were places for them.
-fn found(length: usize, places: usize, next: usize) -> Run
-    ensures { result.length ≤ places }
+// BITS, "one element a character": how many there are, unless the text is no BITS or has more than the run.
+pub fn bits_in(text: &[u8], run: &mut [u8]) -> Option<usize>
+    ensures { IfSome result (λ count. count ≤ length run.old) }
 {
-    if places < length {
-        return Run {
-            length: 0,
-            next: NOWHERE,
-        };
+    if text == b"-".as_slice() {
+        return Some(0);
     }
-    Run { length, next }
-}
-
-// BITS, "one element a character": how many there are, or NOWHERE where the text is no BITS or has more than the run.
-pub fn bits_in(text: &[u8], run: &mut [u8]) -> usize
-    ensures { result < 18446744073709551615 → result ≤ length run.old }
-{
-    if is_same(text, b"-") {
-        return 0;
+    if text.is_empty() || run.len() < text.len() {
+        return None;
     }
-    if text.len() == 0 {
-        return NOWHERE;
+    for (place, character) in run.iter_mut().zip(text) {
+        *place = digit_of(*character).filter(|digit| *digit < 10)?;
     }
-    if run.len() < text.len() {
-        return NOWHERE;
-    }
-    for i in 0..text.len() {
-        let digit = digit_of(text[i]);
-        if 9 < digit {
-            return NOWHERE;
-        }
-        run[i] = (digit % 10) as u8;
-    }
-    text.len()
-}
-
-pub fn bits_at(line: &[u8], cursor: usize, run: &mut [u8]) -> Run
-    ensures { result.length ≤ length run.old }
-{
-    let field = field_at(line, cursor);
-    let start = field.start;
-    let end = field.end;
-    let length = bits_in(&line[start..end], run);
-    found(length, run.len(), end + 1)
+    Some(text.len())
 }
 
 // One of WORDS: "upper-case hex, at least three digits".
-fn word_in(text: &[u8]) -> Parsed {
+fn word_in(text: &[u8]) -> Option<u16> {
     if text.len() < 3 {
-        return Parsed::Unsound;
+        return None;
     }
-    number_in(text, 16, 0xffff)
+    u16::try_from(number_in(text, 16, 0xffff)?).ok()
 }
 
-// How many words there are, "commas between", or NOWHERE as for bits.
-fn words_in(text: &[u8], run: &mut [u16]) -> usize {
-    if is_same(text, b"-") {
-        return 0;
-    }
-    let mut at: usize = 0;
-    for i in 0..run.len() {
-        let part = part_at(text, at, b',');
-        let start = part.start;
-        let end = part.end;
-        let Parsed::Value(word) = word_in(&text[start..end]) else {
-            return NOWHERE;
-        };
-        run[i] = (word % 0x1_0000) as u16;
-        if end == text.len() {
-            return i + 1;
-        }
-        at = end + 1;
-    }
-    NOWHERE
-}
-
-pub fn words_at(line: &[u8], cursor: usize, run: &mut [u16]) -> Run
-    ensures { result.length ≤ length run.old }
+// How many words there are, "commas between", unless one is none or there are more than the run has.
+fn words_in(text: &[u8], run: &mut [u16]) -> Option<usize>
+    ensures { IfSome result (λ count. count ≤ length run.old) }
 {
-    let field = field_at(line, cursor);
-    let start = field.start;
-    let end = field.end;
-    let length = words_in(&line[start..end], run);
-    found(length, run.len(), end + 1)
+    if text == b"-".as_slice() {
+        return Some(0);
+    }
+    let mut count = 0;
+    for word in text.split(|c| *c == b',') {
+        if count == run.len() {
+            return None;
+        }
+        run[count] = word_in(word)?;
+        count += 1;
+    }
+    Some(count)
+}
+
+impl<'a> Fields<'a> {
+    pub fn bits(&mut self, run: &mut [u8]) -> Option<usize>
+        ensures missing { IsNone self.old.rest → IsNone result }
+        ensures bounded { IfSome result (λ count. count ≤ length run.old) }
+    {
+        bits_in(self.next_field()?, run)
+    }
+
+    pub fn words(&mut self, run: &mut [u16]) -> Option<usize>
+        ensures missing { IsNone self.old.rest → IsNone result }
+        ensures bounded { IfSome result (λ count. count ≤ length run.old) }
+    {
+        words_in(self.next_field()?, run)
+    }
 }

@@ -1,198 +1,98 @@
 // Taking a line apart: fields that single spaces divide, and the numbers in them.
-//
-// A cursor is where the next field starts; past the last field it is one past the line's end. Where a field is missing, or is
-// not what it must be, the cursor past it is NOWHERE: no field is found there, and it is not the end. So a line is a request if
-// its last cursor is the end.
-ghost use Rattle.std.specs.Prelude.{◌≡◌, true, ◌+◌, ◌≤◌, ◌<◌, eqb, length};
-ghost use Rattle.requests.specs.Parsing.{value_of, plain_limit, limit_of, Limited};
+ghost use Rattle.std.specs.Prelude.{◌≡◌, ◌==◌, ◌≤◌, ◌<◌, ◌↔◌, length, position, IsSome, IsNone, IfSome, MatchOption};
+ghost use Rattle.std.specs.List.{before_first, after_first};
+ghost use Rattle.requests.specs.Parsing.{limit_of, Limited};
 
-use crate::types::{Field, MOST_NUMBERS, Numbers, Parsed, Taken};
+use crate::numbers::{count_in, number_in};
+use crate::types::Field;
 
-pub const NOWHERE: usize = 0xffff_ffff_ffff_ffff;
-
-// Where the part of a text that starts at `from` ends: before the next separator, or at the text's end.
-fn part_end(text: &[u8], from: usize, separator: u8) -> usize
-    requires { from ≤ length text.now }
-    ensures { (from ≤ result) × (result ≤ length text.now) }
+fn first_place(text: &[u8], separator: u8) -> Option<usize>
+    ensures { result ≡ position (λ c. c == separator) text.now }
 {
-    let mut at = from;
-    while at < text.len() {
-        if text[at] == separator {
-            return at;
-        }
-        at += 1;
-    }
-    at
+    text.iter().position(|c| *c == separator)
 }
 
-// The part that starts there, and one with no characters where the text does not reach so far.
-pub fn part_at(text: &[u8], from: usize, separator: u8) -> Field
-    ensures { (result.start ≤ result.end) × (result.end ≤ length text.now) }
+// A text at the first separator: what stands before it, and what stands after it, if there is one.
+pub fn part<'a>(text: &'a [u8], separator: u8) -> (&'a [u8], Option<&'a [u8]>)
+    ensures first { result.0.now ≡ before_first (λ c. c == separator) text.now }
+    ensures rest { IfSome result.1 (λ r. r.now ≡ after_first (λ c. c == separator) text.now) }
 {
-    if text.len() < from {
-        return Field { start: 0, end: 0 };
-    }
-    Field {
-        start: from,
-        end: part_end(text, from, separator),
+    match first_place(text, separator) {
+        Some(end) => (&text[..end], Some(&text[end + 1..])),
+        None => (text, None),
     }
 }
 
-pub fn field_at(line: &[u8], cursor: usize) -> Field
-    ensures { (result.start ≤ result.end) × (result.end ≤ length line.now) }
-{
-    part_at(line, cursor, b' ')
+// The fields of a line that were not taken yet; after the last there is no rest, where an empty rest is an empty field.
+#[derive(Clone, Copy)]
+pub struct Fields<'a> {
+    rest: Option<&'a [u8]>,
 }
 
-pub fn is_end(line: &[u8], cursor: usize) -> bool
-    ensures { result ≡ eqb cursor (length line.now + 1) }
-{
-    if line.len() < cursor {
-        return cursor - line.len() == 1;
+impl<'a> Fields<'a> {
+    pub fn of(line: &'a [u8]) -> Fields<'a>
+        ensures { IfSome result.rest (λ r. r.now ≡ line.now) }
+    {
+        Fields { rest: Some(line) }
     }
-    false
-}
 
-pub fn is_same(text: &[u8], word: &[u8]) -> bool
-    ensures { result ≡ true → text.now ≡ word.now }
-{
-    if text.len() != word.len() {
-        return false;
+    // The next field, up to a space or the line's end.
+    pub fn next_field(&mut self) -> Option<&'a [u8]>
+        ensures found { IsSome result ↔ IsSome self.old.rest }
+        ensures field { MatchOption self.old.rest (IsNone result) (λ r. IfSome result (λ f. f.now ≡ before_first (λ c. c == 32) r.now)) }
+        ensures left { MatchOption self.old.rest (IsNone self.new.rest) (λ r. IfSome self.new.rest (λ l. l.now ≡ after_first (λ c. c == 32) r.now)) }
+    {
+        let (field, rest) = part(self.rest?, b' ');
+        self.rest = rest;
+        Some(field)
     }
-    for i in 0..text.len() {
-        if text[i] != word[i] {
-            return false;
+
+    // A line is a request only if nothing is left of it.
+    pub fn end(self) -> Option<()>
+        ensures { IsSome result ↔ IsNone self.entry.rest }
+    {
+        match self.rest {
+            Some(_) => None,
+            None => Some(()),
         }
     }
-    true
-}
 
-// What a character is worth as a digit, and 16 where it is none.
-pub fn digit_of(character: u8) -> u64
-    ensures { result ≤ 16 }
-{
-    match character {
-        b'0'..=b'9' => (character - b'0') as u64,
-        b'A'..=b'F' => (character - b'A' + 10) as u64,
-        _ => 16,
-    }
-}
-
-// A value with one digit more, where that is a digit of the base and the value stays within `most`.
-fn appended(value: u64, digit: u64, base: u64, most: u64) -> Parsed
-    ensures { value_of result ≤ most }
-{
-    if base <= digit {
-        return Parsed::Unsound;
-    }
-    if most < digit {
-        return Parsed::Unsound;
-    }
-    if (most - digit) / base < value {
-        return Parsed::Unsound;
-    }
-    Parsed::Value(base * value + digit)
-}
-
-pub fn number_in(text: &[u8], base: u64, most: u64) -> Parsed
-    ensures { value_of result ≤ most }
-{
-    if text.len() == 0 {
-        return Parsed::Unsound;
-    }
-    let mut value: u64 = 0;
-    for i in 0..text.len() {
-        let Parsed::Value(next) = appended(value, digit_of(text[i]), base, most) else {
-            return Parsed::Unsound;
-        };
-        value = next;
-    }
-    Parsed::Value(value)
-}
-
-// A form has a letter for each number of a request, or of the rest of one: b for a byte, c for COUNT, f for a flag, k for KIND, h for the KIND of a high
-// frame rate, l for LENGTH, n for N, and s for START and LIMIT.
-fn limit_of(letter: u8) -> u64
-    ensures { result ≡ plain_limit letter }
-{
-    match letter {
-        b'f' => 1,
-        b'k' => 3,
-        b'h' => 5,
-        b'b' => 255,
-        b'l' => 400,
-        b'n' => 0xffff_ffff,
-        _ => 0xffff_ffff_ffff_ffff,
-    }
-}
-
-// "COUNT is any signed 32-bit number": it is kept as how far it is above the lowest of them.
-fn count_in(text: &[u8]) -> Parsed
-    ensures { value_of result ≤ 4294967295 }
-{
-    if 0 < text.len() {
-        if text[0] == b'-' {
-            let back = number_in(&text[1..], 10, 0x8000_0000);
-            return match back {
-                Parsed::Value(frames) => Parsed::Value(0x8000_0000 - frames % 0x8000_0001),
-                Parsed::Unsound => Parsed::Unsound,
-            };
+    pub fn number(&mut self, field: Field) -> Option<u64>
+        ensures missing { IsNone self.old.rest → IsNone result }
+        ensures bounded { IfSome result (λ n. n ≤ limit_of field) }
+    {
+        let text = self.next_field()?;
+        match field {
+            Field::Count => count_in(text),
+            _ => number_in(text, 10, field.most()),
         }
     }
-    let on = number_in(text, 10, 0x7fff_ffff);
-    match on {
-        Parsed::Value(frames) => Parsed::Value(0x8000_0000 + frames % 0x8000_0000),
-        Parsed::Unsound => Parsed::Unsound,
-    }
-}
 
-fn value_in(text: &[u8], letter: u8) -> Parsed
-    ensures { value_of result ≤ limit_of letter }
-{
-    if letter == b'c' {
-        return count_in(text);
-    }
-    number_in(text, 10, limit_of(letter))
-}
-
-pub fn number_at(line: &[u8], cursor: usize, letter: u8) -> Taken
-    ensures { result.value ≤ limit_of letter }
-{
-    let field = field_at(line, cursor);
-    let start = field.start;
-    let end = field.end;
-    let found = value_in(&line[start..end], letter);
-    match found {
-        Parsed::Value(value) => Taken {
-            value,
-            next: end + 1,
-        },
-        Parsed::Unsound => Taken {
-            value: 0,
-            next: NOWHERE,
-        },
-    }
-}
-
-// The numbers of the next fields, and the cursor past them.
-fn numbers_at(line: &[u8], cursor: usize, form: &[u8], numbers: &mut Numbers) -> usize
-    ensures { result < 18446744073709551615 → Limited form.now numbers.new (length form.now) }
-{
-    let mut at = cursor;
-    for i in 0..form.len() {
-        if MOST_NUMBERS <= i {
-            return NOWHERE;
+    pub fn numbers<const N: usize>(&mut self, form: &[Field; N]) -> Option<[u64; N]>
+        ensures missing { 0 < N → IsNone self.old.rest → IsNone result }
+        ensures bounded { IfSome result (λ numbers. Limited form.now numbers (length form.now)) }
+    {
+        let mut numbers = [0; N];
+        for (i, field) in form.iter().enumerate() {
+            numbers[i] = self.number(*field)?;
         }
-        let taken = number_at(line, at, form[i]);
-        numbers[i] = taken.value;
-        at = taken.next;
+        Some(numbers)
     }
-    at
 }
 
-// The same, and whether they are the rest of the line.
-pub fn take_numbers(line: &[u8], cursor: usize, form: &[u8], numbers: &mut Numbers) -> bool
-    ensures { result ≡ true → Limited form.now numbers.new (length form.now) }
-{
-    is_end(line, numbers_at(line, cursor, form, numbers))
+impl Field {
+    // The most that a number in such a field may be; a count is kept as how far it is above the lowest of them.
+    pub fn most(self) -> u64
+        ensures { result ≡ limit_of self }
+    {
+        match self {
+            Field::Flag => 1,
+            Field::Kind => 3,
+            Field::HighKind => 5,
+            Field::Byte => 255,
+            Field::Length => 400,
+            Field::Number | Field::Count => 0xffff_ffff,
+            Field::Start => u64::MAX,
+        }
+    }
 }

@@ -1,15 +1,16 @@
 // From the numbers of a request to the values that the calls take: each number was found within the limit of its field.
-ghost use Rattle.std.specs.Prelude.{◌≡◌, ◌%◌, ◌<◌, ◌^◌, get_or};
+ghost use Rattle.std.specs.Prelude.{◌≡◌, ◌%◌, ◌<◌, ◌≤◌, ◌^◌, get_or, IsNone, IfSome};
 ghost use Rattle.std.proofs.Math.IntN.{sub_ℕ};
 ghost use Rattle.rates.specs.Face.{showing};
 ghost use Rattle.pictures.specs.Pictures.{picture};
 ghost use Rattle.requests.specs.Parsing.{address_from};
 
-use crate::types::Numbers;
+use crate::fields::Fields;
+use crate::types::{Field, RecordNumbers};
 use clock::DayFrame;
 use layout::flag;
 use pictures::Picture;
-use rates::{Address, SecondFrame};
+use rates::{Address, Flag, SecondFrame};
 use record::{Flags, Groups, Record};
 
 pub fn byte(number: u64) -> u8
@@ -24,15 +25,10 @@ pub fn day_frame(number: u64) -> DayFrame
     DayFrame((number % 0x1_0000_0000) as u32)
 }
 
-// A number below 0 is the bits of one less than its size, turned over.
 pub fn count(above_lowest: u64) -> i32
     ensures { above_lowest < 2 ^ 32 → result ≡ sub_ℕ above_lowest (2 ^ 31) }
 {
-    if above_lowest < 0x8000_0000 {
-        let less = 0x7fff_ffff - above_lowest;
-        return !(less as i32);
-    }
-    (above_lowest % 0x8000_0000) as i32
+    ((above_lowest % 0x1_0000_0000) as i64 - 0x8000_0000) as i32
 }
 
 // `H M S F`.
@@ -57,38 +53,134 @@ pub fn picture_in(hours: u64, minutes: u64, seconds: u64, frames: u64, place: u6
     }
 }
 
-fn flags_in(n: &Numbers) -> Flags {
-    Flags {
-        drop: flag(n[7]),
-        colour: flag(n[8]),
-        mark: flag(n[9]),
-        bgf0: flag(n[10]),
-        bgf1: flag(n[11]),
-        bgf2: flag(n[12]),
-    }
-}
-
-fn groups_in(n: &Numbers) -> Groups {
-    Groups {
-        group1: byte(n[13]),
-        group2: byte(n[14]),
-        group3: byte(n[15]),
-        group4: byte(n[16]),
-        group5: byte(n[17]),
-        group6: byte(n[18]),
-        group7: byte(n[19]),
-        group8: byte(n[20]),
-    }
-}
-
-// RECORD, from the fourth number of a write's form on.
-pub fn record_in(n: &Numbers) -> Record
-    ensures { (result.address ≡ address_from 3 n.now) × (result.place ≡ get_or n.now 21 0 % 256) }
+// RECORD: `H M S F drop colour mark bgf0 bgf1 bgf2 G1 .. G8 P`.
+pub fn record_in(numbers: &RecordNumbers) -> Record
+    ensures { (result.address ≡ address_from 0 numbers.now) × (result.place ≡ get_or numbers.now 18 0 % 256) }
 {
+    let [
+        hours,
+        minutes,
+        seconds,
+        frames,
+        drop,
+        colour,
+        mark,
+        bgf0,
+        bgf1,
+        bgf2,
+        group1,
+        group2,
+        group3,
+        group4,
+        group5,
+        group6,
+        group7,
+        group8,
+        place,
+    ] = *numbers;
     Record {
-        address: address_in(n[3], n[4], n[5], n[6]),
-        flags: flags_in(n),
-        groups: groups_in(n),
-        place: byte(n[21]),
+        address: address_in(hours, minutes, seconds, frames),
+        flags: Flags {
+            drop: flag(drop),
+            colour: flag(colour),
+            mark: flag(mark),
+            bgf0: flag(bgf0),
+            bgf1: flag(bgf1),
+            bgf2: flag(bgf2),
+        },
+        groups: Groups {
+            group1: byte(group1),
+            group2: byte(group2),
+            group3: byte(group3),
+            group4: byte(group4),
+            group5: byte(group5),
+            group6: byte(group6),
+            group7: byte(group7),
+            group8: byte(group8),
+        },
+        place: byte(place),
+    }
+}
+
+const RECORD: [Field; 19] = [
+    Field::Byte,
+    Field::Byte,
+    Field::Byte,
+    Field::Byte,
+    Field::Flag,
+    Field::Flag,
+    Field::Flag,
+    Field::Flag,
+    Field::Flag,
+    Field::Flag,
+    Field::Byte,
+    Field::Byte,
+    Field::Byte,
+    Field::Byte,
+    Field::Byte,
+    Field::Byte,
+    Field::Byte,
+    Field::Byte,
+    Field::Byte,
+];
+
+impl<'a> Fields<'a> {
+    pub fn byte(&mut self) -> Option<u8>
+        ensures { IsNone self.old.rest → IsNone result }
+    {
+        Some(byte(self.number(Field::Byte)?))
+    }
+
+    pub fn flag(&mut self) -> Option<Flag>
+        ensures { IsNone self.old.rest → IsNone result }
+    {
+        Some(flag(self.number(Field::Flag)?))
+    }
+
+    pub fn day_frame(&mut self) -> Option<DayFrame>
+        ensures { IsNone self.old.rest → IsNone result }
+    {
+        Some(day_frame(self.number(Field::Number)?))
+    }
+
+    pub fn count(&mut self) -> Option<i32>
+        ensures { IsNone self.old.rest → IsNone result }
+    {
+        Some(count(self.number(Field::Count)?))
+    }
+
+    // LENGTH.
+    pub fn length(&mut self) -> Option<usize>
+        ensures missing { IsNone self.old.rest → IsNone result }
+        ensures bounded { IfSome result (λ n. n ≤ 400) }
+    {
+        Some(self.number(Field::Length)? as usize)
+    }
+
+    // START or LIMIT.
+    pub fn start(&mut self) -> Option<usize>
+        ensures { IsNone self.old.rest → IsNone result }
+    {
+        Some(self.number(Field::Start)? as usize)
+    }
+
+    pub fn address(&mut self) -> Option<Address>
+        ensures { IsNone self.old.rest → IsNone result }
+    {
+        let [hours, minutes, seconds, frames] = self.numbers(&[Field::Byte; 4])?;
+        Some(address_in(hours, minutes, seconds, frames))
+    }
+
+    pub fn picture(&mut self) -> Option<Picture>
+        ensures { IsNone self.old.rest → IsNone result }
+    {
+        let [hours, minutes, seconds, frames, place] = self.numbers(&[Field::Byte; 5])?;
+        Some(picture_in(hours, minutes, seconds, frames, place))
+    }
+
+    pub fn record(&mut self) -> Option<Record>
+        ensures { IsNone self.old.rest → IsNone result }
+    {
+        Some(record_in(&self.numbers(&RECORD)?))
     }
 }

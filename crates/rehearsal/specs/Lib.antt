@@ -1,0 +1,2 @@
+-- Ends   how far the reading goes
+pub mod Ends

@@ -1,2 +1,0 @@
--- Told      what is told is within what bounds it
-mod Told
