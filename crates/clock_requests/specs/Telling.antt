@@ -1,30 +1,31 @@
 -- What each call may tell: what it is asked for, or what it is refused with.
 -- Assumes nothing.
-use Rattle.std.specs.Prelude.{Bool, true, false}
+use Rattle.refusals.specs.declared.types.Refusal.{Refusal}
+use Rattle.std.specs.Prelude.{Bool, true, false, Ok, Err, Result}
 use Rattle.clock_requests.specs.declared.types.Call.{Call}
 use Rattle.clock_requests.specs.declared.types.Call.TheVariants as call
 use Rattle.clock_requests.specs.declared.types.Told.{Told}
-use Rattle.clock_requests.specs.declared.types.Told.TheVariants.{Number, Frames, At, Refused}
+use Rattle.clock_requests.specs.declared.types.Told.TheVariants.{Number, Frames, At}
 
-abbrev pub number_told : Told → Bool
-number_told (Number n) = true
-number_told (Frames n) = false
-number_told (At p) = false
-number_told (Refused n) = true
+abbrev pub number_told : Result Told Refusal → Bool
+number_told (Ok (Number n)) = true
+number_told (Ok (Frames n)) = false
+number_told (Ok (At p)) = false
+number_told (Err r) = true
 
-abbrev pub span_told : Told → Bool
-span_told (Number n) = false
-span_told (Frames n) = true
-span_told (At p) = false
-span_told (Refused n) = true
+abbrev pub span_told : Result Told Refusal → Bool
+span_told (Ok (Number n)) = false
+span_told (Ok (Frames n)) = true
+span_told (Ok (At p)) = false
+span_told (Err r) = true
 
-abbrev pub picture_told : Told → Bool
-picture_told (Number n) = false
-picture_told (Frames n) = false
-picture_told (At p) = true
-picture_told (Refused n) = true
+abbrev pub picture_told : Result Told Refusal → Bool
+picture_told (Ok (Number n)) = false
+picture_told (Ok (Frames n)) = false
+picture_told (Ok (At p)) = true
+picture_told (Err r) = true
 
-abbrev pub may_tell : Call → Told → Bool
+abbrev pub may_tell : Call → Result Told Refusal → Bool
 may_tell call.Number = number_told
 may_tell call.InSecond = number_told
 may_tell call.Address = picture_told

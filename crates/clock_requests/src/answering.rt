@@ -5,6 +5,7 @@ ghost use Rattle.answers.specs.Places.{Extended};
 use crate::calling::told_for;
 use crate::types::{Call, Told};
 use answers::Answer;
+use refusals::Refusal;
 use requests::Fields;
 
 fn call_named(name: &[u8]) -> Option<Call> {
@@ -25,20 +26,20 @@ fn call_named(name: &[u8]) -> Option<Call> {
     }
 }
 
-fn put_told(answer: &mut Answer, told: Told)
+fn put_told(answer: &mut Answer, told: Result<Told, Refusal>)
     ensures { Extended answer.old answer.new }
 {
     match told {
-        Told::Number(number) => {
+        Ok(Told::Number(number)) => {
             answer.put_text(b"number");
             answer.put_number(number);
         }
-        Told::Frames(frames) => {
+        Ok(Told::Frames(frames)) => {
             answer.put_text(b"distance");
             answer.put_signed(frames);
         }
-        Told::At(picture) => answer.put_picture(picture),
-        Told::Refused(number) => answer.put_refused(number),
+        Ok(Told::At(picture)) => answer.put_picture(picture),
+        Err(refusal) => answer.put_refused(u8::from(refusal)),
     }
 }
 

@@ -3,14 +3,14 @@ ghost use Rattle.std.specs.Prelude.{◌≡◌, true, IfSome};
 ghost use Rattle.clock_requests.specs.Telling.{number_told, span_told, picture_told, may_tell};
 
 use crate::types::{Call, Given, Told};
-use clock::{Numbered, Placed, Span};
 use kinds::{
     CountsAddresses, CountsPictures, Frames24, Frames25, Frames30, Frames30Drop, Frames48,
     Frames50, Frames60, Frames60Drop, Frames72, Frames96, Frames100, Frames120As24x5,
     Frames120As30x4, Frames120Drop,
 };
-use pictures::{InSecond, Picture, Pictured};
-use rates::Flag;
+use pictures::Picture;
+use rates::{Address, Flag};
+use refusals::Refusal;
 use requests::{Field, Fields};
 
 // `MODE DROP H M S F P`, and nothing after it.
@@ -22,27 +22,23 @@ fn last_picture(mut fields: Fields) -> Option<(u8, Flag, Picture)> {
     Some((mode, drop, picture))
 }
 
-fn number_for(fields: Fields) -> Option<Told>
+fn number_for(fields: Fields) -> Option<Result<Told, Refusal>>
     ensures { IfSome result (λ told. number_told told ≡ true) }
 {
     let (mode, drop, picture) = last_picture(fields)?;
-    Some(match modes::number_of(mode, drop, picture) {
-        Numbered::Refused(number) => Told::Refused(number),
-        Numbered::Number(frame) => Told::Number(u64::from(frame.0)),
-    })
+    let numbered = modes::number_of(mode, drop, picture);
+    Some(numbered.map(|frame| Told::Number(u64::from(frame.0))))
 }
 
-fn in_second_for(fields: Fields) -> Option<Told>
+fn in_second_for(fields: Fields) -> Option<Result<Told, Refusal>>
     ensures { IfSome result (λ told. number_told told ≡ true) }
 {
     let (mode, drop, picture) = last_picture(fields)?;
-    Some(match modes::number_in_second(mode, drop, picture) {
-        InSecond::Refused(number) => Told::Refused(number),
-        InSecond::Number(picture) => Told::Number(u64::from(picture.0)),
-    })
+    let counted = modes::number_in_second(mode, drop, picture);
+    Some(counted.map(|number| Told::Number(u64::from(number.0))))
 }
 
-fn distance_for(mut fields: Fields) -> Option<Told>
+fn distance_for(mut fields: Fields) -> Option<Result<Told, Refusal>>
     ensures { IfSome result (λ told. span_told told ≡ true) }
 {
     let mode = fields.byte()?;
@@ -50,13 +46,11 @@ fn distance_for(mut fields: Fields) -> Option<Told>
     let from = fields.picture()?;
     let to = fields.picture()?;
     fields.end()?;
-    Some(match modes::distance(mode, drop, from, to) {
-        Span::Refused(number) => Told::Refused(number),
-        Span::Frames(frames) => Told::Frames(frames),
-    })
+    let measured = modes::distance(mode, drop, from, to);
+    Some(measured.map(|frames| Told::Frames(frames)))
 }
 
-fn address_for(mut fields: Fields) -> Option<Pictured> {
+fn address_for(mut fields: Fields) -> Option<Result<Picture, Refusal>> {
     let mode = fields.byte()?;
     let drop = fields.flag()?;
     let number = fields.day_frame()?;
@@ -64,7 +58,7 @@ fn address_for(mut fields: Fields) -> Option<Pictured> {
     Some(modes::picture_of(mode, drop, number))
 }
 
-fn sum_for(mut fields: Fields) -> Option<Pictured> {
+fn sum_for(mut fields: Fields) -> Option<Result<Picture, Refusal>> {
     let mode = fields.byte()?;
     let drop = fields.flag()?;
     let picture = fields.picture()?;
@@ -73,7 +67,7 @@ fn sum_for(mut fields: Fields) -> Option<Pictured> {
     Some(modes::add(mode, drop, picture, count))
 }
 
-fn fields_for(fields: Fields) -> Option<Pictured> {
+fn fields_for(fields: Fields) -> Option<Result<Picture, Refusal>> {
     let (mode, drop, picture) = last_picture(fields)?;
     let Picture { address, place } = picture;
     Some(modes::picture_from(
@@ -111,7 +105,7 @@ fn picture_given(mut fields: Fields, kinds: Field) -> Option<(u64, Given)> {
     Some((kind, Given::Fields(picture)))
 }
 
-fn address_in<K: CountsAddresses>(given: Given) -> Placed {
+fn address_in<K: CountsAddresses>(given: Given) -> Result<Address, Refusal> {
     match given {
         Given::Number(number) => K::from_number(number),
         Given::Fields(Picture { address, .. }) => {
@@ -125,7 +119,7 @@ fn address_in<K: CountsAddresses>(given: Given) -> Placed {
     }
 }
 
-fn picture_in<K: CountsPictures>(given: Given) -> Pictured {
+fn picture_in<K: CountsPictures>(given: Given) -> Result<Picture, Refusal> {
     match given {
         Given::Number(number) => K::from_number(number),
         Given::Fields(Picture { address, place }) => K::from_fields(
@@ -138,7 +132,7 @@ fn picture_in<K: CountsPictures>(given: Given) -> Pictured {
     }
 }
 
-fn kind_for((kind, given): (u64, Given)) -> Placed {
+fn kind_for((kind, given): (u64, Given)) -> Result<Address, Refusal> {
     match kind {
         0 => address_in::<Frames24>(given),
         1 => address_in::<Frames25>(given),
@@ -147,7 +141,7 @@ fn kind_for((kind, given): (u64, Given)) -> Placed {
     }
 }
 
-fn pair_for((kind, given): (u64, Given)) -> Pictured {
+fn pair_for((kind, given): (u64, Given)) -> Result<Picture, Refusal> {
     match kind {
         0 => picture_in::<Frames48>(given),
         1 => picture_in::<Frames50>(given),
@@ -156,7 +150,7 @@ fn pair_for((kind, given): (u64, Given)) -> Pictured {
     }
 }
 
-fn high_for((kind, given): (u64, Given)) -> Pictured {
+fn high_for((kind, given): (u64, Given)) -> Result<Picture, Refusal> {
     match kind {
         0 => picture_in::<Frames72>(given),
         1 => picture_in::<Frames96>(given),
@@ -168,25 +162,21 @@ fn high_for((kind, given): (u64, Given)) -> Pictured {
 }
 
 // An address that a picture has to itself: its place is 0.
-fn address_told(placed: Placed) -> Told
+fn address_told(placed: Result<Address, Refusal>) -> Result<Told, Refusal>
     ensures { picture_told result ≡ true }
 {
-    match placed {
-        Placed::Refused(number) => Told::Refused(number),
-        Placed::At(address) => Told::At(Picture { address, place: 0 }),
-    }
+    let address = placed?;
+    Ok(Told::At(Picture { address, place: 0 }))
 }
 
-fn picture_told(pictured: Pictured) -> Told
+fn picture_told(pictured: Result<Picture, Refusal>) -> Result<Told, Refusal>
     ensures { picture_told result ≡ true }
 {
-    match pictured {
-        Pictured::Refused(number) => Told::Refused(number),
-        Pictured::At(picture) => Told::At(picture),
-    }
+    let picture = pictured?;
+    Ok(Told::At(picture))
 }
 
-pub fn told_for(call: Call, fields: Fields) -> Option<Told>
+pub fn told_for(call: Call, fields: Fields) -> Option<Result<Told, Refusal>>
     ensures { IfSome result (λ told. may_tell call told ≡ true) }
 {
     match call {

@@ -31,5 +31,4 @@ pub enum Told {
     Number(u64),
     Frames(i32),
     At(Picture),
-    Refused(u8),
 }

@@ -23,7 +23,7 @@ fn put_heard(answer: &mut Answer, heard: Heard)
             answer.put_read(report.record, report.found);
             answer.put_byte(way_number(report.way));
         }
-        Heard::Refused(number) => answer.put_refused(number),
+        Heard::Refused(refusal) => answer.put_refused(u8::from(refusal)),
     }
 }
 

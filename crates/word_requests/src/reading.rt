@@ -14,7 +14,7 @@ fn put_unpacked(answer: &mut Answer, unpacked: Result<Record, Refusal>)
     ensures { Extended answer.old answer.new }
 {
     match unpacked {
-        Err(number) => answer.put_refused(number),
+        Err(refusal) => answer.put_refused(u8::from(refusal)),
         Ok(record) => answer.put_record(record),
     }
 }
@@ -23,8 +23,8 @@ fn put_word(answer: &mut Answer, word: Result<Word, Refusal>)
     ensures { Extended answer.old answer.new }
 {
     match word {
-        Err(number) => answer.put_refused(number),
-        Ok(record, found) => answer.put_read(record, found),
+        Err(refusal) => answer.put_refused(u8::from(refusal)),
+        Ok(says) => answer.put_read(says.record, says.found),
     }
 }
 
@@ -32,7 +32,7 @@ fn put_packet(answer: &mut Answer, packet: Result<Contents, Refusal>)
     ensures { Extended answer.old answer.new }
 {
     match packet {
-        Err(number) => answer.put_refused(number),
+        Err(refusal) => answer.put_refused(u8::from(refusal)),
         Ok(contents) => {
             answer.put_record(contents.record);
             answer.put_byte(contents.payload_type);

@@ -22,7 +22,7 @@ fn put_written(answer: &mut Answer, written: Result<(), Refusal>)
 {
     match written {
         Ok(()) => answer.put_text(b"wrote"),
-        Err(number) => answer.put_refused(number),
+        Err(refusal) => answer.put_refused(u8::from(refusal)),
     }
 }
 
