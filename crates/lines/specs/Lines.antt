@@ -2,6 +2,7 @@
 -- the bits so far, the word refused and the number."
 -- Assumes nothing.
 use Rattle.std.specs.Prelude.{ℕ, List, [], ◌∷◌, ◌++◌}
+use Rattle.refusals.specs.Table.{number}
 use Rattle.record.specs.declared.types.Record.{Record}
 use Rattle.hearing.specs.declared.types.Heard.{Heard}
 use Rattle.hearing.specs.declared.types.Heard.TheVariants.{Nothing, Accepted, Refused}
@@ -32,7 +33,7 @@ refused_text number = (space ∷ the_word_refused) ++ ((space ∷ decimal number
 unfoldable pub line_of : ℕ → Heard → List ℕ
 line_of bits Nothing = []
 line_of bits (Accepted report) = decimal bits ++ accepted_text report.«record»
-line_of bits (Refused number) = decimal bits ++ refused_text number
+line_of bits (Refused refusal) = decimal bits ++ refused_text (number refusal)
 
 -- the last line: the word end and the bits so far
 unfoldable pub end_line_of : ℕ → List ℕ

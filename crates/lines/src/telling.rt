@@ -1,11 +1,13 @@
 // The line of an answer, and the last line.
 ghost use Rattle.std.specs.Prelude.{◌≡◌, ◌+◌, ◌≤◌, length};
+ghost use Rattle.refusals.specs.Table.{number};
 ghost use Rattle.runs.specs.Run.{placed};
 ghost use Rattle.lines.specs.Lines.{numbered, accepted_text, refused_text, line_of, end_line_of};
 
 use figures::{address_text, groups_text};
 use hearing::Heard;
 use record::Record;
+use refusals::Refusal;
 use text::{append, append_decimal};
 
 // Room for any line. The longest has 42 characters: 20 digits of bits so far, 11 of an address, 8 of groups, two spaces and a line feed.
@@ -29,11 +31,11 @@ fn lay_numbered(word: &[u8], number: u64, text: &mut [u8], at: usize) -> usize
     append(b"\n", text, end)
 }
 
-fn lay_refused(number: u8, text: &mut [u8], at: usize) -> usize
+fn lay_refused(refusal: Refusal, text: &mut [u8], at: usize) -> usize
     requires { at + 13 ≤ length text.old }
-    ensures { (result ≡ at + length (refused_text number)) × (text.new ≡ placed at (refused_text number) text.old) }
+    ensures { (result ≡ at + length (refused_text (number refusal))) × (text.new ≡ placed at (refused_text (number refusal)) text.old) }
 {
-    lay_numbered(b" refused ", number as u64, text, at)
+    lay_numbered(b" refused ", u64::from(u8::from(refusal)), text, at)
 }
 
 pub fn line(bits: u64, heard: Heard, text: &mut [u8; ROOM]) -> usize
@@ -46,9 +48,9 @@ pub fn line(bits: u64, heard: Heard, text: &mut [u8; ROOM]) -> usize
             let at = append_decimal(bits, text, 0);
             lay_accepted(r, text, at)
         }
-        Heard::Refused(number) => {
+        Heard::Refused(refusal) => {
             let at = append_decimal(bits, text, 0);
-            lay_refused(number, text, at)
+            lay_refused(refusal, text, at)
         }
     }
 }

@@ -28,4 +28,4 @@ pub lay_numbered-requires : goal.lay_numbered-requires
 lay_numbered-requires c = short _ _ _ (search rules) (search rules)
 
 pub returns : goal.returns
-returns c = refused _ _ _ c.lay_numbered.ensures
+returns c = rw (← c.from.ensures, ← c.from-2.ensures) (refused _ _ _ c.lay_numbered.ensures)

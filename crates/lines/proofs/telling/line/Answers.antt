@@ -7,6 +7,7 @@ use mathlib.Core.List.{List, ◌++◌}
 use native.Mathlib.Omega.{arith}
 use lib.ListN.{length}
 use Rattle.refusals.specs.declared.types.Refusal.{Refusal}
+use Rattle.refusals.specs.Table.{number}
 use Rattle.hearing.specs.declared.types.Report.{Report}
 use Rattle.hearing.specs.declared.types.Heard.{Heard}
 use Rattle.hearing.specs.declared.types.Heard.TheVariants.{Nothing, Accepted, Refused}
@@ -44,10 +45,10 @@ module _ (bits : ℕ) (text : List ℕ) {p : ℕ} {mid : List ℕ} (long : 48 �
     accepted report e = told (accepted_text report.«record») (rw e)
 
     refused :
-        (number : Refusal) → heard ≡ Refused number → Stands (refused_text number) p mid q out
+        (refusal : Refusal) → heard ≡ Refused refusal → Stands (refused_text (number refusal)) p mid q out
         → (q ≡ length (line_of bits heard)) × (out ≡ placed 0 (line_of bits heard) text)
     unfolding line_of
-    refused number e = told (refused_text number) (rw e)
+    refused refusal e = told (refused_text (number refusal)) (rw e)
 
 pub lay_accepted-requires : goal.lay_accepted-requires
 lay_accepted-requires c = omega (arith, early c.args.bits _ (search rules) c.append_decimal-at.ensures)
