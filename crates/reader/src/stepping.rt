@@ -1,5 +1,5 @@
 // A step takes one bit; a block takes bits up to the first answer, the limit, a bad element or the end.
-ghost use Rattle.std.specs.Prelude.{◌≡◌, false, ◌<◌, min};
+ghost use Rattle.std.specs.Prelude.{◌≡◌, false, ◌<◌};
 ghost use Rattle.modes.specs.Modes.{unknown};
 ghost use Rattle.register.specs.Held.{held_bits, push, reader_with, unreached};
 ghost use Rattle.hearing.specs.Window.{heard_in};
@@ -94,24 +94,14 @@ fn is_answer(answer: Heard) -> bool
     }
 }
 
-fn lesser(a: usize, b: usize) -> usize
-    ensures { result ≡ min a b }
-{
-    if a < b {
-        return a;
-    }
-    b
-}
-
 // The bits of a run up to an end, from a reader whose mode and state are sound.
 fn feed(reader: Reader, limit: usize, run: &[u8]) -> Blocked
     requires { (unknown reader.mode ≡ false) × (unreached reader ≡ false) }
     ensures { result ≡ going reader limit run.now }
 {
     let mut now = reader;
-    let mut taken: usize = 0;
-    let end = lesser(limit, run.len());
-    while taken < end {
+    let end = limit.min(run.len());
+    for taken in 0..end {
         let element = run[taken];
         if 1 < element {
             return Blocked {
@@ -121,14 +111,13 @@ fn feed(reader: Reader, limit: usize, run: &[u8]) -> Blocked
             };
         }
         now = pushed(now, element);
-        taken += 1;
         if is_synced(now) {
             let answer = heard_apart(now);
             if is_answer(answer) {
                 return Blocked {
                     heard: answer,
                     reader: now,
-                    taken,
+                    taken: taken + 1,
                 };
             }
         }
@@ -136,7 +125,7 @@ fn feed(reader: Reader, limit: usize, run: &[u8]) -> Blocked
     Blocked {
         heard: Heard::Nothing,
         reader: now,
-        taken,
+        taken: end,
     }
 }
 

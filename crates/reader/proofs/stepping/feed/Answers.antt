@@ -1,16 +1,15 @@
--- `reader::stepping::feed` meets its contract. At each turn what is still to come makes the whole block; what is left to do is the way to the end.
+-- `reader::stepping::feed` meets its contract. At each turn what is still to come makes the whole block.
 -- Assumes nothing.
+use mathlib.Core.Path.{◌≡◌}
 use native.Mathlib.Omega.{arith}
 use borrow.Author.Rules.{rules}
 use Rattle.reader.proofs.Turns.{feeding_ends, stops_before}
-use Rattle.reader.proofs.FeedTests.{begins, within, sound, unsynced, answered, unanswered}
+use Rattle.reader.proofs.FeedTests.{begins, sound, unsynced, answered, unanswered}
 use Rattle.reader.proofs.stepping.feed.Goals as goal
+use Rattle.reader.proofs.stepping.feed.Goals.{then-is_synced+else-is_answer, else-is_synced}
 
 pub loop-taken-init : goal.loop-taken-init
 loop-taken-init c = search begins
-
-pub bounds-run-taken : goal.bounds-run-taken
-bounds-run-taken c = search within
 
 pub returns-then-element-gt1 : goal.returns-then-element-gt1
 returns-then-element-gt1 c = search stops_before
@@ -18,30 +17,26 @@ returns-then-element-gt1 c = search stops_before
 pub pushed-now-requires : goal.pushed-now-requires
 pushed-now-requires c = (search sound, omega arith)
 
-pub overflow_add-taken : goal.overflow_add-taken
-overflow_add-taken c = omega arith
-
 pub returns-then-is_answer : goal.returns-then-is_answer
 returns-then-is_answer c = search answered
 
-pub loop-taken-smaller-else-is_answer : goal.loop-taken-smaller-else-is_answer
-loop-taken-smaller-else-is_answer c = omega arith
-
-pub loop-taken-preserved-else-is_answer : goal.loop-taken-preserved-else-is_answer
-loop-taken-preserved-else-is_answer c =
-    unanswered _ _ _ _ _ _ c.loop-taken.invariant (omega arith) (omega arith) _ c.pushed-now.ensures _
-    c.heard_apart-answer.ensures
-    _
-    c.is_answer.ensures
-    (search rules)
-    (search rules)
-    c.if-is_answer.false
-
-pub loop-taken-smaller : goal.loop-taken-smaller
-loop-taken-smaller c = omega arith
-
 pub loop-taken-preserved : goal.loop-taken-preserved
-loop-taken-preserved c = search unsynced
+loop-taken-preserved c =
+    elim c.if-is_synced.branch [
+      | then-is_synced+else-is_answer w ↦ unanswered _ _ _ _ _ _ c.loop-taken.invariant c.loop-taken-test.true c.if-element-gt1.false _ c.pushed-now.ensures _
+          w.heard_apart-answer.ensures
+          _
+          w.is_answer.ensures
+          (search rules)
+          (search rules)
+          w.if-is_answer.false
+      | else-is_synced w ↦ unsynced _ _ _ _ _ _ c.loop-taken.invariant c.loop-taken-test.true c.if-element-gt1.false _ c.pushed-now.ensures
+          (search rules)
+          (search rules)
+          _
+          c.is_synced.ensures
+          w.if-is_synced.false
+    ]
 
 pub returns : goal.returns
-returns c = search feeding_ends
+returns c = let all : c.loop-taken.taken ≡ c.min-end.result = omega arith in rw all at (feeding_ends _ _ _ _ _ _ c.loop-taken.invariant (omega arith))

@@ -1,11 +1,7 @@
--- `reader::stepping::feed` meets its contract. At each turn what is still to come makes the whole block; what is left to do is the way to the end.
+-- `reader::stepping::feed` meets its contract. At each turn what is still to come makes the whole block.
 -- Assumes nothing.
-use Prim.Native.Nat.{◌-◌}
 use Rattle.reader.specs.Feeding.{Feeding}
 use Rattle.reader.proofs.stepping.feed.Given as goal
 
 abbrev pub invariant-loop-taken : goal.invariant-loop-taken
 invariant-loop-taken l = Feeding l.limit l.run l.initial.now l.end l.now l.taken
-
-abbrev pub decreases-loop-taken : goal.decreases-loop-taken
-decreases-loop-taken l = l.end - l.taken
