@@ -1,18 +1,13 @@
 // The program: characters 0 and 1 in, a line for each answer of the reader out. What is made of the characters is the scribe's; here they are read and
 // the lines are written.
-//
-// types      where the program stands
 #![tactic(auto)]
 
-ghost use Rattle.std.specs.Prelude.{◌≡◌, true, ◌*◌, ◌≤◌, length};
+ghost use Rattle.std.specs.Prelude.{◌≡◌, ◌*◌, ◌≤◌, length, IfOk, IfErr};
 ghost use Rattle.scribe.specs.Told.{Brought};
 ghost use Rattle.readout.specs.Piece.{PieceTold};
 
-mod types;
-
 use scribe::{Scribe, Telling, Told};
 use std::io::{Read, Stdin, Stdout, Write};
-use types::Followed;
 
 // A read asks for so many characters, and each has room for its line.
 const PIECE: usize = 4096;
@@ -35,34 +30,33 @@ fn told_piece(input: &mut Stdin, before: Scribe, piece: &mut [u8], out: &mut [u8
     }
 }
 
-// Piece after piece, until the scribe has ended.
-fn follow(input: &mut Stdin, output: &mut Stdout, piece: &mut [u8], out: &mut [u8]) -> Followed
+// Piece after piece, until the scribe has ended: an Err has the scribe as it stood when standard output took no more.
+fn follow(
+    input: &mut Stdin,
+    output: &mut Stdout,
+    piece: &mut [u8],
+    out: &mut [u8],
+) -> Result<Scribe, Scribe>
     requires { 64 * length piece.old ≤ length out.old }
-    ensures { Brought result.scribe × (result.open ≡ true → result.scribe.left ≡ 0) }
+    ensures ended { IfOk result (λ scribe. Brought scribe × (scribe.left ≡ 0)) }
+    ensures closed { IfErr result Brought }
 {
     let mut now = Scribe::fresh();
     while 0 < now.left {
         let told = told_piece(input, now, piece, out);
-        let length = told.length;
         now = told.scribe;
-        if output.write_all(&out[..length]).is_err() {
-            return Followed {
-                scribe: now,
-                open: false,
-            };
+        if output.write_all(&out[..told.length]).is_err() {
+            return Err(now);
         }
     }
-    Followed {
-        scribe: now,
-        open: true,
-    }
+    Ok(now)
 }
 
 // The last line.
 fn end(output: &mut Stdout, bits: u64) {
     let mut text = [0u8; lines::ROOM];
     let length = lines::end_line(bits, &mut text);
-    let _written = output.write_all(&text[..length]);
+    let _ = output.write_all(&text[..length]);
 }
 
 fn main(rt: HostRuntime) {
@@ -70,9 +64,7 @@ fn main(rt: HostRuntime) {
     let mut output = rt.stdout();
     let mut piece = [0u8; PIECE];
     let mut out = [0u8; LINES];
-    let last = follow(&mut input, &mut output, &mut piece, &mut out);
-    let scribe = last.scribe;
-    if last.open {
+    if let Ok(scribe) = follow(&mut input, &mut output, &mut piece, &mut out) {
         end(&mut output, scribe.bits);
     }
 }

@@ -36,17 +36,14 @@ fn told_block(reader: Reader, bits: u64, run: &[u8], out: &mut [u8], at: usize) 
     ensures { (result ≡ block_told reader bits run.now out.old at) × (out.new ≡ out_after (line_of_block reader bits run.now) at out.old) }
 {
     let block = reader::block(reader, run.len(), run);
-    let taken = block.taken;
-    let after = block.reader;
-    let heard = block.heard;
-    let so_far = std::num::wrapping_add_u64(bits, taken as u64);
+    let so_far = bits.wrapping_add(block.taken as u64);
     let mut text = [0u8; lines::ROOM];
-    let length = lines::line(so_far, heard, &mut text);
+    let length = lines::line(so_far, block.heard, &mut text);
     let next = text::append(&text[..length], out, at);
     Block {
-        reader: after,
+        reader: block.reader,
         bits: so_far,
-        taken,
+        taken: block.taken,
         at: next,
     }
 }
@@ -92,13 +89,10 @@ fn telling(before: Scribe, characters: &mut [u8], out: &mut [u8]) -> Telling
 {
     let end = before.left.min(characters.len());
     let sifted = characters::sift(&mut characters[..end]);
-    let bits = sifted.bits;
-    let reader = before.reader;
-    let told = told_run(reader, before.bits, &characters[..bits], out);
-    let now = told.reader;
+    let told = told_run(before.reader, before.bits, &characters[..sifted.bits], out);
     Telling {
         scribe: Scribe {
-            reader: now,
+            reader: told.reader,
             bits: told.bits,
             left: left_after(before.left, end, sifted.more),
         },

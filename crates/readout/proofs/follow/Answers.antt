@@ -2,7 +2,6 @@
 -- still come.
 -- Assumes nothing.
 use mathlib.Core.Path.{refl, sym, subst}
-use mathlib.Core.Bool.{false≢true}
 use native.Mathlib.Omega.{arith}
 use borrow.Author.Rules.{rules}
 use Rattle.scribe.specs.Told.{Brought, fresh}
@@ -21,8 +20,8 @@ slice_bounds-write_all-end c = within _ _ c.told_piece-told.ensures
 pub slice_bounds-write_all-end-in-loop-now : goal.slice_bounds-write_all-end-in-loop-now
 slice_bounds-write_all-end-in-loop-now c = sized _ _ c.told_piece-told.ensures
 
-pub returns-then-is_err : goal.returns-then-is_err
-returns-then-is_err c = (goes_on _ _ c.told_piece-told.ensures c.loop-now.invariant.0, λ e. absurd (false≢true e))
+pub returns-then-is_err-clause-closed : goal.returns-then-is_err-clause-closed
+returns-then-is_err-clause-closed c = goes_on _ _ c.told_piece-told.ensures c.loop-now.invariant.0
 
 pub loop-now-smaller : goal.loop-now-smaller
 loop-now-smaller c = grows_less _ _ c.told_piece-told.ensures (omega arith)
@@ -30,5 +29,5 @@ loop-now-smaller c = grows_less _ _ c.told_piece-told.ensures (omega arith)
 pub loop-now-preserved : goal.loop-now-preserved
 loop-now-preserved c = (goes_on _ _ c.told_piece-told.ensures c.loop-now.invariant.0, search rules, search rules)
 
-pub returns : goal.returns
-returns c = (c.loop-now.invariant.0, λ e. omega arith)
+pub returns-clause-ended : goal.returns-clause-ended
+returns-clause-ended c = (c.loop-now.invariant.0, omega arith)

@@ -16,5 +16,5 @@ slice_bounds-follow-end c = as_many _
 pub slice_bounds-follow-end-2 : goal.slice_bounds-follow-end-2
 slice_bounds-follow-end-2 c = as_many _
 
-pub follow-last-requires : goal.follow-last-requires
-follow-last-requires c = omega arith
+pub follow-requires : goal.follow-requires
+follow-requires c = omega arith

@@ -1,6 +1,6 @@
 -- `scribe::copying::told_block` meets its contract: the block's answer, told with the bits so far, stands after the gathered lines.
 -- Assumes nothing.
-use Rattle.std.proofs.Common.{◌≡◌, ℕ, ◌+◌, ◌%◌, ◌^◌, List, length, take, ap, ◌∙◌, ap₂, arith}
+use Rattle.std.proofs.Common.{◌≡◌, ℕ, ◌+◌, ◌%◌, ◌^◌, List, length, take, refl, ap, ◌∙◌, ap₂, arith}
 use Rattle.runs.specs.Run.{placed}
 use Rattle.runs.proofs.Parts.{read_back}
 use Rattle.register.specs.declared.types.Reader.{Reader}
@@ -44,6 +44,4 @@ pub returns : goal.returns
 returns c =
     let line = c.line-length.ensures in
     told _ _ _ _ _ _
-    c.block-block.ensures
-    c.wrapping_add_u64-so_far.ensures.value
-    line.0 line.1 c.append-next.ensures
+    c.block-block.ensures refl line.0 line.1 c.append-next.ensures
