@@ -6,7 +6,7 @@ use mathlib.Core.List.{List}
 use native.Mathlib.Omega.{arith}
 use lib.ListN.{length, take}
 use Rattle.refusals.specs.declared.types.Refusal.{Refusal}
-use Rattle.std.specs.Prelude.{Err, Ok, Result}
+use Rattle.std.specs.Prelude.{IsOk, Err, Ok, Result}
 use Rattle.runs.specs.Run.{placed}
 use Rattle.text.proofs.Laid.{told_within, prefix_length}
 use Rattle.scribe.specs.declared.types.Scribe.{Scribe}
@@ -26,10 +26,8 @@ module _
       let same : Ok telling ≡ Ok (telling_of before characters) = sym e ∙ so.0 in
       record { characters = characters; told = cc; stands = so.1 }
 
-  pub never_refused : (n : Refusal) (telling : Telling) → told ≡ Err n → PieceTold before out telling out_left
-  never_refused n telling e =
-      let other : Err n ≡ Ok (telling_of before characters) = sym e ∙ so.0 in
-      let z : ◌≡◌ {A = ℕ} 0 1 = cc in absurd (omega arith)
+  pub never_refused : IsOk told
+  never_refused = rw so.0 search
 
 module _ (before : Scribe) {telling : Telling} (out : List ℕ) {out_left : List ℕ} (p : PieceTold before out telling out_left) where
   pub goes_on : Brought before → Brought telling.scribe

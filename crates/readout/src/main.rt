@@ -6,7 +6,7 @@ ghost use Rattle.std.specs.Prelude.{◌≡◌, ◌*◌, ◌≤◌, length, IfOk,
 ghost use Rattle.scribe.specs.Told.{Brought};
 ghost use Rattle.readout.specs.Piece.{PieceTold};
 
-use scribe::{Scribe, Telling, Told};
+use scribe::{Scribe, Telling};
 use std::io::{Read, Stdin, Stdout, Write};
 
 // A read asks for so many characters, and each has room for its line.
@@ -20,14 +20,7 @@ fn told_piece(input: &mut Stdin, before: Scribe, piece: &mut [u8], out: &mut [u8
     ensures { PieceTold before out.old result out.new }
 {
     let count = input.read(piece).unwrap_or(0);
-    let told = scribe::tell(before, &mut piece[..count], out);
-    match told {
-        Told::Lines(telling) => telling,
-        Told::Refused(_) => Telling {
-            scribe: before,
-            length: 0,
-        },
-    }
+    scribe::tell(before, &mut piece[..count], out).unwrap()
 }
 
 // Piece after piece, until the scribe has ended: an Err has the scribe as it stood when standard output took no more.

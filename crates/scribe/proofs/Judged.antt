@@ -1,5 +1,6 @@
 -- What a reader that is asked for no bit says of its mode and state is what the call's list says of them first.
 -- Assumes nothing.
+use Rattle.refusals.proofs.Results.{not_accepted}
 use Rattle.refusals.specs.declared.types.Refusal.{Refusal}
 use Rattle.std.specs.Prelude.{Err, Ok, Result}
 use Rattle.refusals.specs.declared.types.Refusal.TheVariants.{NoRoom, StateNotReached, UnknownMode}
@@ -37,15 +38,10 @@ module _ (reader : Reader) (run : List ℕ) {asked : Blocked} {found : Result Un
 
       go : (m : Bool) → unknown reader.mode ≡ m → (u : Bool) → unreached reader ≡ u → Passing reader
       go true m u v =
-          let two : Ok tt ≡ Err UnknownMode = rw m at given in
-          let z : ◌≡◌ {A = ℕ} 0 1 = cc in absurd (omega arith)
+          let two : Ok tt ≡ Err UnknownMode = rw m at given in absurd (not_accepted UnknownMode (sym two))
       go false m true v =
-          let thirteen : Ok tt ≡ Err StateNotReached = rw (m, v) at given in
-          let z : ◌≡◌ {A = ℕ} 0 1 = cc in absurd (omega arith)
+          let thirteen : Ok tt ≡ Err StateNotReached = rw (m, v) at given in absurd (not_accepted StateNotReached (sym thirteen))
       go false m false v = record { known = m; passes = v }
-
-not_told : (telling : Telling) (n : Refusal) → Err n ≡ Ok telling → ⊥
-not_told telling n e = let z : ◌≡◌ {A = ℕ} 0 1 = cc in omega arith
 
 module _ (before : Scribe) (characters out : List ℕ) where
   -- a call that is turned away leaves the characters and the run as they were
@@ -53,7 +49,7 @@ module _ (before : Scribe) (characters out : List ℕ) where
   unfolding told_of characters_after out_of
   refused_leaves n e =
       let telling = telling_of before characters in
-      let same = unchanged Err (Ok telling) (not_told telling) (tell_refusals before characters out) 0 in
+      let same = unchanged Err (Ok telling) not_accepted (tell_refusals before characters out) 0 in
       (same (bits_in (counted before characters)) characters n e, same (text_of before characters) out n e)
 
   module _ (run : List ℕ) {asked : Blocked} {found : Result Unit Refusal} (took : asked ≡ blocked_of before.reader 0 run) (says : found ≡ verdict_in asked.heard) where
@@ -66,16 +62,15 @@ module _ (before : Scribe) (characters out : List ℕ) where
 
         go : (m : Bool) → unknown before.reader.mode ≡ m → (u : Bool) → unreached before.reader ≡ u → ToldOf before characters out (Err n) characters out
         go true m u v =
-            let two : Err n ≡ Err UnknownMode = rw m at given in
-            let number : n ≡ 2 = cc in
+            let two : ◌≡◌ {A = Result Unit Refusal} (Err n) (Err UnknownMode) = rw m at given in
+            let number : n ≡ UnknownMode = cc in
             record { answers_so = rw (m, number); leaves_characters = rw m; leaves_out = rw m }
         go false m true v =
-            let thirteen : Err n ≡ Err StateNotReached = rw (m, v) at given in
-            let number : n ≡ 13 = cc in
+            let thirteen : ◌≡◌ {A = Result Unit Refusal} (Err n) (Err StateNotReached) = rw (m, v) at given in
+            let number : n ≡ StateNotReached = cc in
             record { answers_so = rw (m, v, number); leaves_characters = rw (m, v); leaves_out = rw (m, v) }
         go false m false v =
-            let none : Err n ≡ Ok tt = rw (m, v, quiet_at_0 before.reader run) at given in
-            let z : ◌≡◌ {A = ℕ} 0 1 = cc in absurd (omega arith)
+            let none : Err n ≡ Ok tt = rw (m, v, quiet_at_0 before.reader run) at given in absurd (not_accepted n none)
 
   module _ (sound : Passing before.reader) where
     pub no_room_left : length out < 64 * length characters → ToldOf before characters out (Err NoRoom) characters out

@@ -9,7 +9,7 @@ ghost use Rattle.scribe.specs.Told.{fresh_scribe, counted, lines_of, text_of, le
 ghost use Rattle.scribe.specs.Blocks.{line_of_block, block_told, run_told, verdict_in};
 ghost use Rattle.scribe.specs.Loops.{Ready};
 
-use crate::types::{Block, Scribe, Telling, Told};
+use crate::types::{Block, Scribe, Telling};
 use hearing::Heard;
 use register::{Reader, Ways};
 use refusals::Refusal;
@@ -107,25 +107,22 @@ fn verdict(heard: Heard) -> Result<(), Refusal>
     match heard {
         Heard::Nothing => Ok(()),
         Heard::Accepted(_) => Ok(()),
-        Heard::Refused(number) => Err(number),
+        Heard::Refused(refusal) => Err(refusal),
     }
 }
 
 // What a piece of characters is told. A piece of none is the end of the input.
-pub fn tell(before: Scribe, characters: &mut [u8], out: &mut [u8]) -> Told
+pub fn tell(
+    before: Scribe,
+    characters: &mut [u8],
+    out: &mut [u8],
+) -> Result<Telling, Refusal>
     ensures { ToldOf before characters.old out.old result characters.new out.new }
 {
-    let reader = before.reader;
-    let asked = reader::block(reader, 0, characters);
-    let heard = asked.heard;
-    let found = verdict(heard);
-    match found {
-        Err(number) => Told::Refused(number),
-        Ok(()) => {
-            if out.len() / lines::ROOM < characters.len() {
-                return Told::Refused(Refusal::NoRoom);
-            }
-            Told::Lines(telling(before, characters, out))
-        }
+    let asked = reader::block(before.reader, 0, characters);
+    verdict(asked.heard)?;
+    if out.len() / lines::ROOM < characters.len() {
+        return Err(Refusal::NoRoom);
     }
+    Ok(telling(before, characters, out))
 }

@@ -8,4 +8,4 @@ mod copying;
 mod types;
 
 pub use copying::tell;
-pub use types::{Scribe, Telling, Told};
+pub use types::{Scribe, Telling};

@@ -15,12 +15,6 @@ pub struct Telling {
     pub length: usize,
 }
 
-#[derive(Clone, Copy)]
-pub enum Told {
-    Lines(Telling),
-    Refused(u8),
-}
-
 // A reader and the bits so far, how many bits of the run were taken, and the place after the lines so far.
 #[derive(Clone, Copy)]
 pub struct Block {
