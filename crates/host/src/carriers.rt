@@ -4,7 +4,10 @@ ghost use Rattle.host.specs.Carriers.{ltc_read, ltc_written, ltc_run, vitc_read,
 
 use crate::unnamed::after_mode;
 use modes::{is_uncounted, is_unknown};
-use plain::{LineAnswer, PacketAnswer, PlainContents, PlainRecord, WordAnswer, has_flag_above_1, interface_given, is_no_interface, is_no_make, make_given, record_given};
+use plain::{
+    LineAnswer, PacketAnswer, PlainContents, PlainRecord, WordAnswer, has_flag_above_1,
+    interface_given, is_no_interface, is_no_make, make_given, record_given,
+};
 use refusals::Refusal;
 
 #[unsafe(no_mangle)]

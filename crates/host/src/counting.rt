@@ -5,7 +5,10 @@ ghost use Rattle.host.specs.Counting.{number_for, in_second_for, picture_for, di
 use crate::unnamed::after_mode;
 use clock::DayFrame;
 use modes::is_uncounted;
-use plain::{DistanceAnswer, NumberAnswer, PictureAnswer, PlainPicture, SecondAnswer, flag_given, is_no_flag, picture_given};
+use plain::{
+    DistanceAnswer, NumberAnswer, PictureAnswer, PlainPicture, SecondAnswer, flag_given,
+    is_no_flag, picture_given,
+};
 
 #[unsafe(no_mangle)]
 pub extern "C" fn shx_number(mode: u8, drop: u8, picture: PlainPicture) -> NumberAnswer

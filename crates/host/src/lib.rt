@@ -12,6 +12,8 @@ mod counting;
 mod reading;
 mod unnamed;
 
-pub use carriers::{shx_atc_read, shx_atc_write, shx_ltc_read, shx_ltc_write, shx_vitc_read, shx_vitc_write};
+pub use carriers::{
+    shx_atc_read, shx_atc_write, shx_ltc_read, shx_ltc_write, shx_vitc_read, shx_vitc_write,
+};
 pub use counting::{shx_add, shx_distance, shx_number, shx_number_in_second, shx_picture};
 pub use reading::{shx_block, shx_fresh, shx_step};

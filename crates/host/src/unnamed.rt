@@ -2,8 +2,8 @@
 ghost use Rattle.std.specs.Prelude.{◌≡◌};
 ghost use Rattle.host.specs.Unnamed.{after_mode, after_reader};
 
-use register::{Reader, is_unreached};
 use refusals::Refusal;
+use register::{Reader, is_unreached};
 
 pub fn after_mode(unknown: bool) -> Refusal
     ensures { result ≡ after_mode unknown }

@@ -50,7 +50,12 @@ pub trait CountsAddresses: CountingMode {
         address_of(Self::RATE, Self::DROP, number)
     }
 
-    final fn from_fields(hours: u8, minutes: u8, seconds: u8, frames: SecondFrame) -> Result<Address, Refusal>
+    final fn from_fields(
+        hours: u8,
+        minutes: u8,
+        seconds: u8,
+        frames: SecondFrame,
+    ) -> Result<Address, Refusal>
         ensures { result ≡ fields_of_address Self.RATE Self.DROP (showing hours minutes seconds frames.0) }
     {
         address_from(Self::RATE, Self::DROP, hours, minutes, seconds, frames)

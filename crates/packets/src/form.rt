@@ -6,7 +6,6 @@ ghost use Rattle.packets.specs.Calls.{form_refusals};
 
 use refusals::Refusal;
 
-
 // By the family of the mode.
 pub fn fifth_word(mode: u8) -> u16
     ensures { result ≡ fifth_word mode }

@@ -43,7 +43,12 @@ pub fn picture_from(
     Ok(fields)
 }
 
-pub fn add(counting: Counting, drop: Flag, picture: Picture, pictures: i32) -> Result<Picture, Refusal>
+pub fn add(
+    counting: Counting,
+    drop: Flag,
+    picture: Picture,
+    pictures: i32,
+) -> Result<Picture, Refusal>
     ensures { result ≡ plus_of counting.rate (counting.last + 1) drop picture pictures }
 {
     let start = number_of(counting, drop, picture)?;

@@ -35,7 +35,11 @@ pub fn number_of(counting: Counting, drop: Flag, picture: Picture) -> Result<Day
     Ok(DayFrame(number))
 }
 
-pub fn number_in_second(counting: Counting, drop: Flag, picture: Picture) -> Result<PictureInSecond, Refusal>
+pub fn number_in_second(
+    counting: Counting,
+    drop: Flag,
+    picture: Picture,
+) -> Result<PictureInSecond, Refusal>
     ensures { result ≡ in_second_of counting.rate (counting.last + 1) drop picture }
 {
     judge(counting, drop, picture)?;

@@ -2,15 +2,18 @@
 ghost use Rattle.std.specs.Prelude.{◌≡◌};
 ghost use Rattle.plain.specs.Answers.{number_answer, second_answer, picture_answer, distance_answer, written_code, no_record, word_answer, line_answer, packet_answer, heard_with, heard_shown, step_answer, block_answer};
 
-use atc::Contents;
-use record::Record;
-use pictures::{Picture, PictureInSecond};
-use clock::DayFrame;
 use crate::shown::{found_shown, picture_shown, reader_shown, record_shown, way_shown};
-use crate::types::{BlockAnswer, DistanceAnswer, LineAnswer, NumberAnswer, PacketAnswer, PictureAnswer, PlainContents, PlainHeard, PlainPicture, PlainRecord, SecondAnswer, StepAnswer, WordAnswer};
+use crate::types::{
+    BlockAnswer, DistanceAnswer, LineAnswer, NumberAnswer, PacketAnswer, PictureAnswer,
+    PlainContents, PlainHeard, PlainPicture, PlainRecord, SecondAnswer, StepAnswer, WordAnswer,
+};
+use atc::Contents;
+use clock::DayFrame;
 use hearing::Heard;
+use pictures::{Picture, PictureInSecond};
 use polarity::Word;
 use reader::{Blocked, Stepped};
+use record::Record;
 use refusals::Refusal;
 
 const DONE: u8 = 0;

@@ -11,6 +11,15 @@ mod given;
 mod shown;
 mod types;
 
-pub use answers::{blocked, code_alone, distance, in_second, line, number, packet, picture, stepped, word, written};
-pub use given::{flag_given, has_flag_above_1, interface_given, is_no_flag, is_no_interface, is_no_make, is_no_ways, make_given, picture_given, reader_given, record_given};
-pub use types::{BlockAnswer, DistanceAnswer, LineAnswer, NumberAnswer, PacketAnswer, PictureAnswer, PlainContents, PlainHeard, PlainPicture, PlainReader, PlainRecord, SecondAnswer, StepAnswer, WordAnswer};
+pub use answers::{
+    blocked, code_alone, distance, in_second, line, number, packet, picture, stepped, word, written,
+};
+pub use given::{
+    flag_given, has_flag_above_1, interface_given, is_no_flag, is_no_interface, is_no_make,
+    is_no_ways, make_given, picture_given, reader_given, record_given,
+};
+pub use types::{
+    BlockAnswer, DistanceAnswer, LineAnswer, NumberAnswer, PacketAnswer, PictureAnswer,
+    PlainContents, PlainHeard, PlainPicture, PlainReader, PlainRecord, SecondAnswer, StepAnswer,
+    WordAnswer,
+};

@@ -8,8 +8,8 @@ ghost use Rattle.reader.specs.Blocks.{is_answer, going, blocked_of};
 
 use crate::types::{Blocked, Stepped};
 use hearing::{Heard, heard, is_synced};
-use register::{Reader, is_unreached};
 use refusals::Refusal;
+use register::{Reader, is_unreached};
 
 // The reader with one bit more.
 fn pushed(reader: Reader, bit: u8) -> Reader

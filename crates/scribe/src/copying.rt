@@ -11,8 +11,8 @@ ghost use Rattle.scribe.specs.Loops.{Ready};
 
 use crate::types::{Block, Scribe, Telling};
 use hearing::Heard;
-use register::{Reader, Ways};
 use refusals::Refusal;
+use register::{Reader, Ways};
 
 // "in mode 2 .. after 16,777,216 characters in all". It hears forward only.
 const MODE: u8 = 2;
@@ -112,11 +112,7 @@ fn verdict(heard: Heard) -> Result<(), Refusal>
 }
 
 // What a piece of characters is told. A piece of none is the end of the input.
-pub fn tell(
-    before: Scribe,
-    characters: &mut [u8],
-    out: &mut [u8],
-) -> Result<Telling, Refusal>
+pub fn tell(before: Scribe, characters: &mut [u8], out: &mut [u8]) -> Result<Telling, Refusal>
     ensures { ToldOf before characters.old out.old result characters.new out.new }
 {
     let asked = reader::block(before.reader, 0, characters);

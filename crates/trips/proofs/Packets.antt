@@ -137,6 +137,7 @@ unfolding read_of
 read_clear mode interface words contents e =
     let taken = accepted_so (read_refusals mode interface words) e in
     (taken.0, taken.1)
+
 -- it had 23 words, and its second byte is a byte
 pub read_sized :
     (mode : ℕ) (interface : Interface) (words : List ℕ) (contents : Contents) → read_of mode interface words ≡ Ok contents

@@ -4,8 +4,8 @@ ghost use Rattle.interval.specs.Line.{info_in};
 ghost use Rattle.vitc.specs.Asked.{BitRun};
 ghost use Rattle.vitc.specs.Calls.{read_of};
 
-use record::Record;
 use modes::Shows;
+use record::Record;
 use refusals::Refusal;
 
 // The 64 information bits, each from its place.

@@ -1,14 +1,14 @@
 // Reads of linear words, vertical interval lines and packets.
 ghost use Rattle.answers.specs.Places.{Extended};
 
-use atc::Contents;
-use record::Record;
 use crate::faces::face_told;
 use crate::types::Carrier;
 use answers::Answer;
+use atc::Contents;
 use polarity::Word;
-use requests::{Fields, LONGEST_LINE};
+use record::Record;
 use refusals::Refusal;
+use requests::{Fields, LONGEST_LINE};
 
 fn put_unpacked(answer: &mut Answer, unpacked: Result<Record, Refusal>)
     ensures { Extended answer.old answer.new }

@@ -6,8 +6,8 @@ use crate::types::Carrier;
 use answers::Answer;
 use polarity::Found;
 use rates::Flag;
-use requests::Fields;
 use refusals::Refusal;
+use requests::Fields;
 
 // "MAKE says in the same way which is to be written".
 fn make_told(flag: Flag) -> Found {
