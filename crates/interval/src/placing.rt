@@ -7,7 +7,8 @@ ghost use Rattle.interval.specs.Line.{crc_of, groups, line_with};
 use crate::parity::count_ones;
 use refusals::Refusal;
 
-// Eight groups of ten: the pair 1, 0 and eight information bits, low bit first.
+// Eight groups of ten: the pair 1, 0 and eight information bits, low bit first. They are lent by their places: of what `chunks_mut` lent a
+// proof knows no element once it is back.
 fn write_groups(info: u64, part: &mut [u8])
     requires { length part.old ≡ 80 }
     ensures { part.new ≡ groups 8 info }

@@ -1,45 +1,36 @@
 -- `interval::placing::crc` meets its contract. At each turn the number is that of the bits from the i-th on.
 -- Assumes nothing.
 use Prim.Native.Nat.{ℕ, ◌+◌, ◌-◌, ◌*◌, ◌%◌, ◌^◌, ◌≤◌, ◌<◌}
-use mathlib.Core.Path.{◌≡◌, sym, ◌∙◌}
-use mathlib.Core.List.{List, [], ◌∷◌, ◌++◌}
+use mathlib.Core.Path.{◌≡◌}
+use mathlib.Core.List.{List}
 use native.Mathlib.Omega.{arith}
-use lib.ListN.{length, get_or, take}
-use lib.Seq.{take_all}
-use Rattle.std.proofs.lemmas.List.{take_more}
+use lib.ListN.{get_or, take}
 use Rattle.runs.specs.Loops.{Gathering}
-use Rattle.runs.proofs.Turns.{gather_begins, gather_turns, gather_room}
 use Rattle.interval.specs.Line.{ones_at, crc_of}
-use Rattle.interval.proofs.Lists.{length_each, get_d_each}
+use Rattle.interval.proofs.Lists.{get_d_each}
 use Rattle.interval.proofs.Pass.{odds_of}
+use Rattle.interval.proofs.Gathers.{each_begins, each_room, each_turns}
 use Rattle.interval.proofs.placing.crc.Goals as goal
 
 module _ (front : List ℕ) where
-  long : length (crc_of front) ≡ 8
-  unfolding crc_of
-  long = length_each 8 (λ i. ones_at ((82 + i) % 8) front % 2)
-
   begun : Gathering (crc_of front) 0 (take 8 (crc_of front))
-  begun = gather_begins (crc_of front) _ (take_all 8 (crc_of front) (omega (arith, long))) (omega (arith, long))
+  unfolding crc_of
+  begun = each_begins 8 (λ i. ones_at ((82 + i) % 8) front % 2) (omega arith)
 
   -- the bit of a place is the count of its remainder
   bit_at : (odds : List ℕ) → odds ≡ odds_of front → (place : ℕ) → get_or odds (place % 8) 0 ≡ ones_at (place % 8) front % 2
   bit_at odds told place = rw told (get_d_each 8 (λ n. ones_at n front % 2) (place % 8) (omega arith))
 
-  module _ (i : ℕ) (within : i ≤ 8) (some : 0 < i) (bit : ℕ) (told : bit ≡ ones_at ((82 + (i - 1)) % 8) front % 2) where
-    next : take i (crc_of front) ≡ take (i - 1) (crc_of front) ++ (bit ∷ [])
+  module _
+      (i : ℕ) (within : i ≤ 8) (some : 0 < i) (bit : ℕ) (told : bit ≡ ones_at ((82 + (i - 1)) % 8) front % 2) (number : ℕ)
+      (g : Gathering (crc_of front) number (take i (crc_of front))) where
+    room : number < 2 ^ 63
     unfolding crc_of
-    next =
-        let last : i - 1 + 1 ≡ i = omega arith in
-        let here : get_or (crc_of front) (i - 1) 0 ≡ bit = get_d_each 8 (λ n. ones_at ((82 + n) % 8) front % 2) (i - 1) (omega arith) ∙ sym told in
-        rw (last, here) at (take_more (crc_of front) (i - 1) 0 (omega (arith, long)))
+    room = each_room 8 (λ i. ones_at ((82 + i) % 8) front % 2) i within some bit told number g
 
-    module _ (number : ℕ) (g : Gathering (crc_of front) number (take i (crc_of front))) where
-      room : number < 2 ^ 63
-      room = gather_room (crc_of front) number (take i (crc_of front)) g (take (i - 1) (crc_of front)) bit next
-
-      turned : Gathering (crc_of front) (2 * number + bit) (take (i - 1) (crc_of front))
-      turned = gather_turns (crc_of front) number (take i (crc_of front)) g (take (i - 1) (crc_of front)) bit next (omega (arith, told))
+    turned : Gathering (crc_of front) (2 * number + bit) (take (i - 1) (crc_of front))
+    unfolding crc_of
+    turned = each_turns 8 (λ i. ones_at ((82 + i) % 8) front % 2) i within some bit told number g (omega (arith, told))
 
 pub loop-i-init : goal.loop-i-init
 loop-i-init c = (omega arith, begun _)
