@@ -19,8 +19,7 @@ pub fn is_synced(reader: Reader) -> bool
     if reader.sync == 0xbffc {
         return true;
     }
-    let ways = reader.ways;
-    match ways {
+    match reader.ways {
         Ways::ForwardOnly => false,
         Ways::Both => reader.info % 0x1_0000 == 0x3ffd,
     }
@@ -29,8 +28,7 @@ pub fn is_synced(reader: Reader) -> bool
 fn reported(word: Word, way: Way) -> Heard
     ensures { result ≡ Accepted (reporting word.«record» word.found way) }
 {
-    let record = word.record;
-    let found = word.found;
+    let Word { record, found } = word;
     Heard::Accepted(Report { record, found, way })
 }
 
@@ -42,14 +40,12 @@ fn heard_turned(reader: Reader) -> Heard
     if oldest != 0x3ffd {
         return Heard::Nothing;
     }
-    let held = reader.held;
-    if held < 80 {
+    if reader.held < 80 {
         return Heard::Nothing;
     }
     let newest = reader.sync as u64;
     let info = turned(reader.info / 0x1_0000 + 0x1_0000_0000_0000 * newest);
-    let word = polarity::read_info(reader.mode, info);
-    match word {
+    match polarity::read_info(reader.mode, info) {
         Ok(says) => reported(says, Way::Backward),
         Err(_) => Heard::Nothing,
     }
@@ -58,8 +54,7 @@ fn heard_turned(reader: Reader) -> Heard
 fn heard_backward(reader: Reader) -> Heard
     ensures { result ≡ backward_in reader.mode reader.ways (held_bits reader) }
 {
-    let ways = reader.ways;
-    match ways {
+    match reader.ways {
         Ways::ForwardOnly => Heard::Nothing,
         Ways::Both => heard_turned(reader),
     }
@@ -75,8 +70,7 @@ pub fn heard(reader: Reader) -> Heard
     if reader.held < 80 {
         return Heard::Nothing;
     }
-    let word = polarity::read_info(reader.mode, reader.info);
-    match word {
+    match polarity::read_info(reader.mode, reader.info) {
         Ok(says) => reported(says, Way::Forward),
         Err(refusal) => Heard::Refused(refusal),
     }

@@ -27,30 +27,18 @@ pub fn bit(flag: Flag) -> u64
 pub fn by_25(rate: Rate, at25: Flag, other: Flag) -> Flag
     ensures { result ≡ by_rate rate other at25 other }
 {
-    match rate {
-        Rate::At24 => other,
-        Rate::At25 => at25,
-        Rate::At30 => other,
-    }
+    rates::by_rate(rate, other, at25, other)
 }
 
 pub fn is_unused_colour(rate: Rate, colour: Flag) -> bool
     ensures { result ≡ unused_colour rate colour }
 {
-    match rate {
-        Rate::At24 => rates::is_yes(colour),
-        Rate::At25 => false,
-        Rate::At30 => false,
-    }
+    matches!(rate, Rate::At24) & rates::is_yes(colour)
 }
 
 // What a mark adds to the 64 bits.
 pub fn mark_value(rate: Rate) -> u64
     ensures { result ≡ 2 ^ (places rate).mark }
 {
-    match rate {
-        Rate::At24 => 0x800_0000,
-        Rate::At25 => 0x800_0000_0000_0000,
-        Rate::At30 => 0x800_0000,
-    }
+    rates::by_rate(rate, 0x800_0000, 0x800_0000_0000_0000, 0x800_0000)
 }

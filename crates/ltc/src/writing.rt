@@ -39,12 +39,10 @@ fn made(rate: Rate, make: Found, clear: u64) -> u64
 pub fn write(mode: u8, r: Record, make: Found, start: usize, run: &mut [u8]) -> Result<(), Refusal>
     ensures { (result ≡ written_of mode r start run.old) × (run.new ≡ run_of mode r make start run.old) }
 {
-    let flags = r.flags;
-    let mark = flags.mark;
     let rate = modes::rate_of(mode)?;
     let clear = modes::picture_to_bits(mode, Shows::First, r)?;
     // 11 as well: a second picture was refused by it above, and a mark is here
-    if rates::is_yes(mark) {
+    if rates::is_yes(r.flags.mark) {
         return Err(Refusal::MarkSet);
     }
     if runs::lacks_room(80, start, run.len()) {

@@ -18,15 +18,7 @@ pub fn from_bits(mode: u8, info: u64) -> Result<Record, Refusal>
 pub fn at_place(place: u8, r: Record) -> Record
     ensures { result ≡ at_place place r }
 {
-    let address = r.address;
-    let flags = r.flags;
-    let groups = r.groups;
-    Record {
-        address,
-        flags,
-        groups,
-        place,
-    }
+    Record { place, ..r }
 }
 
 // The place that is left for the rate to judge: where several pictures share an address, none.

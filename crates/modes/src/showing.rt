@@ -30,17 +30,13 @@ pub fn picture_from_bits(mode: u8, shows: Shows, info: u64) -> Result<Record, Re
     ensures { result ≡ shown_in mode shows info }
 {
     let held = from_bits(mode, info)?;
-    let flags = held.flags;
-    let mark = flags.mark;
-    Ok(at_place(place_shown(mode, shows, mark), held))
+    Ok(at_place(place_shown(mode, shows, held.flags.mark), held))
 }
 
 fn is_unshown(mode: u8, shows: Shows, r: Record) -> bool
     ensures { result ≡ unshown mode shows r }
 {
-    let flags = r.flags;
-    let mark = flags.mark;
-    !(r.place == place_shown(mode, shows, mark))
+    r.place != place_shown(mode, shows, r.flags.mark)
 }
 
 pub fn picture_to_bits(mode: u8, shows: Shows, r: Record) -> Result<u64, Refusal>

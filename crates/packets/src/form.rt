@@ -22,10 +22,7 @@ fn is_headed(mode: u8, words: &[u16]) -> bool
     ensures { result ≡ is_headed mode words.now }
 {
     let fifth = fifth_word(mode);
-    (words[0] == 0x000)
-        & ((words[1] == 0x3FF)
-            & ((words[2] == 0x3FF)
-                & ((words[3] == 0x260) & ((words[4] == fifth) & (words[5] == 0x110)))))
+    words[..6] == [0x000, 0x3FF, 0x3FF, 0x260, fifth, 0x110]
 }
 
 // Whether the words have the form of a packet, whatever they carry.

@@ -12,13 +12,7 @@ fn store_header(mode: u8, run: &mut [u16])
     requires { length run.old ≡ 6 }
     ensures { run.new ≡ header mode }
 {
-    let fifth = fifth_word(mode);
-    run[0] = 0x000;
-    run[1] = 0x3FF;
-    run[2] = 0x3FF;
-    run[3] = 0x260;
-    run[4] = fifth;
-    run[5] = 0x110;
+    run.copy_from_slice(&[0x000, 0x3FF, 0x3FF, 0x260, fifth_word(mode), 0x110]);
 }
 
 // The whole packet into a run of its own length.

@@ -14,10 +14,9 @@ use refusals::Refusal;
 pub fn picture_of(counting: Counting, drop: Flag, number: DayFrame) -> Result<Picture, Refusal>
     ensures { result ≡ picture_of counting.rate (counting.last + 1) drop number }
 {
-    let rate = counting.rate;
     let pictures = counting.last as u32 + 1;
     let place = (number.0 % pictures) as u8;
-    let address = clock::address_of(rate, drop, DayFrame(number.0 / pictures))?;
+    let address = clock::address_of(counting.rate, drop, DayFrame(number.0 / pictures))?;
     Ok(Picture { address, place })
 }
 

@@ -12,34 +12,29 @@ pub fn is_place_outside(last: u8, place: u8) -> bool
     ensures { result ≡ place_outside (last + 1) place }
 {
     let pictures = last as u32 + 1;
-    (1 < pictures) & (pictures <= place as u32)
+    1 < pictures && pictures <= place as u32
 }
 
 pub fn is_place_unused(last: u8, place: u8) -> bool
     ensures { result ≡ place_unused (last + 1) place }
 {
     let pictures = last as u32 + 1;
-    !(1 < pictures) & (0 < place)
+    pictures <= 1 && 0 < place
 }
 
 pub fn judge(counting: Counting, drop: Flag, p: Picture) -> Result<(), Refusal>
     ensures { result ≡ verdict_of (picture_refusals counting.rate (counting.last + 1) drop p) }
 {
-    let rate = counting.rate;
     let out = is_place_outside(counting.last, p.place);
     let unused = is_place_unused(counting.last, p.place);
-    let address = p.address;
-    rates::judge(rate, drop, address, out, unused)
+    rates::judge(counting.rate, drop, p.address, out, unused)
 }
 
 pub fn judge_two(counting: Counting, drop: Flag, p: Picture, q: Picture) -> Result<(), Refusal>
     ensures { result ≡ verdict_of (two_refusals counting.rate (counting.last + 1) drop p q) }
 {
-    let rate = counting.rate;
-    let last = counting.last;
+    let Counting { rate, last } = counting;
     let out = is_place_outside(last, p.place) | is_place_outside(last, q.place);
     let unused = is_place_unused(last, p.place) | is_place_unused(last, q.place);
-    let first = p.address;
-    let second = q.address;
-    rates::judge_two(rate, drop, first, second, out, unused)
+    rates::judge_two(rate, drop, p.address, q.address, out, unused)
 }

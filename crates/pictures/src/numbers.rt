@@ -14,8 +14,7 @@ use refusals::Refusal;
 pub fn last_number(counting: Counting, drop: bool) -> u32
     ensures { (result + 1 ≡ pictures_in_day counting.rate (counting.last + 1) drop) × (result < 2 ^ 30) }
 {
-    let rate = counting.rate;
-    (counting.last as u32 + 1) * frames_in_day(rate, drop) - 1
+    (counting.last as u32 + 1) * frames_in_day(counting.rate, drop) - 1
 }
 
 // "The lowest that applies is given": 8 of the place is looked at before the address, 10 after it.
@@ -25,9 +24,7 @@ pub fn number_of(counting: Counting, drop: Flag, picture: Picture) -> Result<Day
     if is_place_outside(counting.last, picture.place) {
         return Err(Refusal::OutsideTheClock);
     }
-    let rate = counting.rate;
-    let address = picture.address;
-    let before = clock::number_of(rate, drop, address)?;
+    let before = clock::number_of(counting.rate, drop, picture.address)?;
     if is_place_unused(counting.last, picture.place) {
         return Err(Refusal::UnusedBitSet);
     }
@@ -43,9 +40,8 @@ pub fn number_in_second(
     ensures { result ≡ in_second_of counting.rate (counting.last + 1) drop picture }
 {
     judge(counting, drop, picture)?;
-    let address = picture.address;
-    let frames = address.frames;
-    let number = (counting.last as u16 + 1) * frames.0 as u16 + picture.place as u16;
+    let frames = picture.address.frames.0;
+    let number = (counting.last as u16 + 1) * frames as u16 + picture.place as u16;
     Ok(PictureInSecond(number))
 }
 

@@ -38,27 +38,11 @@ pub fn is_miscorrected(rate: Rate, info: u64) -> bool
 pub fn unmarked(r: Record) -> Record
     ensures { result ≡ marked No r }
 {
-    let address = r.address;
-    let flags = r.flags;
-    let groups = r.groups;
-    let place = r.place;
-    let drop = flags.drop;
-    let colour = flags.colour;
-    let mark = Flag::No;
-    let bgf0 = flags.bgf0;
-    let bgf1 = flags.bgf1;
-    let bgf2 = flags.bgf2;
     Record {
-        address,
         flags: Flags {
-            drop,
-            colour,
-            mark,
-            bgf0,
-            bgf1,
-            bgf2,
+            mark: Flag::No,
+            ..r.flags
         },
-        groups,
-        place,
+        ..r
     }
 }

@@ -14,14 +14,14 @@ fn is_outside(rate: Rate, a: Address) -> bool
 {
     let fps = frames_in_second(rate);
     let frames = a.frames.0 as u32;
-    (23 < a.hours) | ((59 < a.minutes) | ((59 < a.seconds) | (fps <= frames)))
+    23 < a.hours || 59 < a.minutes || 59 < a.seconds || fps <= frames
 }
 
 fn is_skipped(a: Address) -> bool
     ensures { result ≡ skipped a }
 {
     let frames = a.frames.0;
-    (frames < 2) & ((a.seconds == 0) & !(a.minutes % 10 == 0))
+    frames < 2 && a.seconds == 0 && a.minutes % 10 != 0
 }
 
 // What an address, or two at one rate, are turned away with: `out` where 8 applies, `skip` where drop-frame skips, `unused` where a bit besides drop, or a place, is set

@@ -10,5 +10,5 @@ mod table;
 mod types;
 
 pub use judging::{judge, judge_two};
-pub use table::{frames_in_day, frames_in_second, is_yes, may_drop};
+pub use table::{by_rate, frames_in_day, frames_in_second, is_yes, may_drop};
 pub use types::{Address, Flag, Rate, SecondFrame};

@@ -7,14 +7,11 @@ use crate::types::{Flag, Rate};
 pub fn is_yes(flag: Flag) -> bool
     ensures { result ≡ is_yes flag }
 {
-    match flag {
-        Flag::No => false,
-        Flag::Yes => true,
-    }
+    matches!(flag, Flag::Yes)
 }
 
-// The one of three numbers that belongs to the rate.
-fn by_rate(rate: Rate, at24: u32, at25: u32, at30: u32) -> u32
+// The one of three that belongs to the rate.
+pub fn by_rate<T: Drop>(rate: Rate, at24: T, at25: T, at30: T) -> T
     ensures { result ≡ by_rate rate at24 at25 at30 }
 {
     match rate {
@@ -42,9 +39,5 @@ pub fn frames_in_day(rate: Rate, drop: bool) -> u32
 pub fn may_drop(rate: Rate) -> bool
     ensures { result ≡ may_drop rate }
 {
-    match rate {
-        Rate::At24 => false,
-        Rate::At25 => false,
-        Rate::At30 => true,
-    }
+    matches!(rate, Rate::At30)
 }

@@ -19,24 +19,19 @@ fn pushed(reader: Reader, bit: u8) -> Reader
     let oldest = (reader.sync % 2) as u64;
     let info = reader.info / 2 + 0x8000_0000_0000_0000 * oldest;
     let sync = reader.sync / 2 + 0x8000 * bit as u16;
-    let held = reader.held;
-    let ways = reader.ways;
-    if held < 80 {
-        let one_more = held + 1;
+    if reader.held < 80 {
         return Reader {
-            mode: reader.mode,
-            ways,
-            held: one_more,
+            held: reader.held + 1,
             info,
             sync,
+            ..reader
         };
     }
     Reader {
-        mode: reader.mode,
-        ways,
         held: 80,
         info,
         sync,
+        ..reader
     }
 }
 

@@ -12,10 +12,6 @@ use refusals::Refusal;
 pub fn judge(rate: Rate, bad: bool, unused: bool, r: Record) -> Result<(), Refusal>
     ensures { result ≡ verdict_of (record_refusals rate bad unused r) }
 {
-    let flags = r.flags;
-    let drop = flags.drop;
-    let colour = flags.colour;
-    let set = unused | is_unused_colour(rate, colour);
-    let address = r.address;
-    rates::judge(rate, drop, address, bad, set)
+    let set = unused | is_unused_colour(rate, r.flags.colour);
+    rates::judge(rate, r.flags.drop, r.address, bad, set)
 }

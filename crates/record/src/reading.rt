@@ -13,9 +13,10 @@ use refusals::Refusal;
 fn has_bad_digit(info: u64) -> bool
     ensures { result ≡ digit_above_9 info }
 {
-    (9 < info / 0x1 % 16)
-        | ((9 < info / 0x1_0000 % 16)
-            | ((9 < info / 0x1_0000_0000 % 16) | (9 < info / 0x1_0000_0000_0000 % 16)))
+    9 < info / 0x1 % 16
+        || 9 < info / 0x1_0000 % 16
+        || 9 < info / 0x1_0000_0000 % 16
+        || 9 < info / 0x1_0000_0000_0000 % 16
 }
 
 fn address_held(info: u64) -> Address

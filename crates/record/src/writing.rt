@@ -14,11 +14,14 @@ use refusals::Refusal;
 fn has_high_group(g: Groups) -> bool
     ensures { result ≡ group_above_15 g }
 {
-    (15 < g.group1)
-        | ((15 < g.group2)
-            | ((15 < g.group3)
-                | ((15 < g.group4)
-                    | ((15 < g.group5) | ((15 < g.group6) | ((15 < g.group7) | (15 < g.group8)))))))
+    15 < g.group1
+        || 15 < g.group2
+        || 15 < g.group3
+        || 15 < g.group4
+        || 15 < g.group5
+        || 15 < g.group6
+        || 15 < g.group7
+        || 15 < g.group8
 }
 
 // Sixteen bits: units, a group, tens and two flags, a group.
@@ -35,30 +38,31 @@ fn packed(rate: Rate, r: Record) -> u64
     requires { verdict_of (write_refusals rate r) ≡ Ok tt }
     ensures { result ≡ info_of rate r }
 {
-    let a = r.address;
-    let f = r.flags;
-    let g = r.groups;
-    let mark = f.mark;
-    let bgf0 = f.bgf0;
-    let bgf1 = f.bgf1;
-    let bgf2 = f.bgf2;
-    let drop = f.drop;
-    let colour = f.colour;
-    let at27 = by_25(rate, bgf0, mark);
-    let at43 = by_25(rate, bgf2, bgf0);
-    let at59 = by_25(rate, mark, bgf2);
-    let first = quarter(a.frames.0, g.group1, drop, colour, g.group2);
-    let second = quarter(a.seconds, g.group3, Flag::No, at27, g.group4);
-    let third = quarter(a.minutes, g.group5, Flag::No, at43, g.group6);
-    let fourth = quarter(a.hours, g.group7, bgf1, at59, g.group8);
+    let Record {
+        address,
+        flags,
+        groups,
+        ..
+    } = r;
+    let at27 = by_25(rate, flags.bgf0, flags.mark);
+    let at43 = by_25(rate, flags.bgf2, flags.bgf0);
+    let at59 = by_25(rate, flags.mark, flags.bgf2);
+    let first = quarter(
+        address.frames.0,
+        groups.group1,
+        flags.drop,
+        flags.colour,
+        groups.group2,
+    );
+    let second = quarter(address.seconds, groups.group3, Flag::No, at27, groups.group4);
+    let third = quarter(address.minutes, groups.group5, Flag::No, at43, groups.group6);
+    let fourth = quarter(address.hours, groups.group7, flags.bgf1, at59, groups.group8);
     first + 0x1_0000 * (second + 0x1_0000 * (third + 0x1_0000 * fourth))
 }
 
 pub fn to_bits(rate: Rate, r: Record) -> Result<u64, Refusal>
     ensures { result ≡ packed_of rate r }
 {
-    let groups = r.groups;
-    let unused = 0 < r.place;
-    judge(rate, has_high_group(groups), unused, r)?;
+    judge(rate, has_high_group(r.groups), 0 < r.place, r)?;
     Ok(packed(rate, r))
 }

@@ -37,19 +37,15 @@ pub fn three_for(last: u8, place: u8) -> u64
 pub fn has_other_set(last: u8, flags: Flags) -> bool
     ensures { result ≡ other_set (last + 1) flags }
 {
-    let third = flags.bgf0;
-    let fourth = flags.bgf1;
-    let fifth = flags.bgf2;
-    (has_two_bits(last) & is_yes(third)) | (is_yes(fourth) | is_yes(fifth))
+    has_two_bits(last) && is_yes(flags.bgf0) || is_yes(flags.bgf1) || is_yes(flags.bgf2)
 }
 
 pub fn has_flag_besides_drop(flags: Flags) -> bool
     ensures { result ≡ flag_besides_drop flags }
 {
-    let colour = flags.colour;
-    let mark = flags.mark;
-    let bgf0 = flags.bgf0;
-    let bgf1 = flags.bgf1;
-    let bgf2 = flags.bgf2;
-    is_yes(colour) | (is_yes(mark) | (is_yes(bgf0) | (is_yes(bgf1) | is_yes(bgf2))))
+    is_yes(flags.colour)
+        || is_yes(flags.mark)
+        || is_yes(flags.bgf0)
+        || is_yes(flags.bgf1)
+        || is_yes(flags.bgf2)
 }

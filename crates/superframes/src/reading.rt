@@ -15,8 +15,6 @@ use refusals::Refusal;
 fn placed_at(place: u8, drop: Flag, r: Record) -> Record
     ensures { result ≡ placed_at place drop r }
 {
-    let address = r.address;
-    let groups = r.groups;
     let flags = Flags {
         drop,
         colour: Flag::No,
@@ -25,27 +23,18 @@ fn placed_at(place: u8, drop: Flag, r: Record) -> Record
         bgf1: Flag::No,
         bgf2: Flag::No,
     };
-    Record {
-        address,
-        flags,
-        groups,
-        place,
-    }
+    Record { flags, place, ..r }
 }
 
 // What is left to judge of bits whose digits and address are inside the clock: the place, drop and the sub-frame bits that are not used.
 fn judged(counting: Counting, drop: Flag, second: Flag, r: Record) -> Result<Record, Refusal>
     ensures { result ≡ judged_of counting.rate (counting.last + 1) drop second r }
 {
-    let rate = counting.rate;
-    let last = counting.last;
+    let Counting { rate, last } = counting;
     let flags = r.flags;
-    let first = flags.mark;
-    let third = flags.bgf0;
-    let place = place_said(last, first, second, third);
+    let place = place_said(last, flags.mark, second, flags.bgf0);
     let outside = pictures::is_place_outside(last, place);
-    let address = r.address;
-    rates::judge(rate, drop, address, outside, has_other_set(last, flags))?;
+    rates::judge(rate, drop, r.address, outside, has_other_set(last, flags))?;
     Ok(placed_at(place, drop, r))
 }
 
@@ -53,9 +42,8 @@ fn judged(counting: Counting, drop: Flag, second: Flag, r: Record) -> Result<Rec
 fn unpacked(counting: Counting, info: u64) -> Result<Record, Refusal>
     ensures { result ≡ unpacked_of counting.rate (counting.last + 1) info }
 {
-    let rate = counting.rate;
     let rest = info - 0x400 * (info / 0x400 % 4);
-    let held = record::from_bits(rate, rest)?;
+    let held = record::from_bits(counting.rate, rest)?;
     let drop = flag(info / 0x400 % 2);
     let second = flag(info / 0x800 % 2);
     judged(counting, drop, second, held)

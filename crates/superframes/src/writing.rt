@@ -15,8 +15,6 @@ use refusals::Refusal;
 fn bare_flagged(three: u64, r: Record) -> Record
     ensures { result ≡ bare (flagged three r) }
 {
-    let address = r.address;
-    let groups = r.groups;
     let flags = Flags {
         drop: Flag::No,
         colour: Flag::No,
@@ -26,10 +24,9 @@ fn bare_flagged(three: u64, r: Record) -> Record
         bgf2: Flag::No,
     };
     Record {
-        address,
         flags,
-        groups,
         place: 0,
+        ..r
     }
 }
 
@@ -37,18 +34,14 @@ fn bare_flagged(three: u64, r: Record) -> Record
 fn packed(counting: Counting, r: Record) -> Result<u64, Refusal>
     ensures { result ≡ packed_of counting.rate (counting.last + 1) r }
 {
-    let rate = counting.rate;
-    let last = counting.last;
+    let Counting { rate, last } = counting;
     let three = three_for(last, r.place);
     let info = record::to_bits(rate, bare_flagged(three, r))?;
     let outside = pictures::is_place_outside(last, r.place);
     let flags = r.flags;
-    let drop = flags.drop;
-    let address = r.address;
-    rates::judge(rate, drop, address, outside, has_flag_besides_drop(flags))?;
+    rates::judge(rate, flags.drop, r.address, outside, has_flag_besides_drop(flags))?;
     let second = flag(three / 2 % 2);
-    let whole = info + 0x400 * (bit(drop) + 2 * bit(second));
-    Ok(whole)
+    Ok(info + 0x400 * (bit(flags.drop) + 2 * bit(second)))
 }
 
 pub fn to_bits(mode: u8, r: Record) -> Result<u64, Refusal>

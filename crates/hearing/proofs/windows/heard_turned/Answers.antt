@@ -48,8 +48,8 @@ module _ (r : Reader) where
 pub returns-then-oldest-ne16381 : goal.returns-then-oldest-ne16381
 returns-then-oldest-ne16381 c = search (no_sync, rules)
 
-pub returns-then-held-lt80 : goal.returns-then-held-lt80
-returns-then-held-lt80 c = search too_few
+pub returns-then-reader-lt80 : goal.returns-then-reader-lt80
+returns-then-reader-lt80 c = search too_few
 
 pub returns-in-Ok : goal.returns-in-Ok
 returns-in-Ok c = search (accepted, rules)

@@ -1,31 +1,29 @@
 -- `packets::form::is_headed` meets its contract: the first six elements are the list's first six.
 -- Assumes nothing.
-use mathlib.Core.Path.{◌≡◌, refl, ap, sym, ◌∙◌}
-use mathlib.Core.Bool.{◌&&◌, and-true}
-use Prim.Native.Nat.{ℕ, suc, ◌≤◌, ◌<◌}
-use native.Mathlib.Omega.{arith}
-use mathlib.Core.List.{List, ◌∷◌}
+use mathlib.Core.Path.{◌≡◌, refl, ap, ◌∙◌}
+use mathlib.Core.Bool.{◌&&◌}
+use mathlib.Core.List.{List, [], ◌∷◌}
+use Prim.Native.Nat.{ℕ}
 use lib.Dec.{eqb}
-use lib.ListN.{length, get_or, take, drop}
-use lib.Seq.{drop-cons}
-use borrow.Author.Rules.{rules}
+use lib.ListN.{take}
+use lib.Pointwise.{pointwise}
 use Rattle.runs.specs.Run.{same}
 use Rattle.packets.specs.Packet.{fifth_word, header, is_headed}
 use Rattle.packets.proofs.form.is_headed.Goals as goal
 
-module _ (words : List ℕ) where
-  next : (k n : ℕ) {rest : List ℕ} → k < length words → take n (drop (suc k) words) ≡ rest → take (suc n) (drop k words) ≡ get_or words k 0 ∷ rest
-  next k n h e = rw (drop-cons words k 0 h) (ap (λ (l : List ℕ). get_or words k 0 ∷ l) e)
+-- what the library compares element by element is the same run
+alike : (xs ys : List ℕ) → pointwise eqb xs ys ≡ same xs ys
+unfolding same
+alike [] [] = refl
+alike [] (y ∷ ys) = refl
+alike (x ∷ xs) [] = refl
+alike (x ∷ xs) (y ∷ ys) = ap (λ rest. eqb x y && rest) (alike xs ys)
 
-  headed :
-      (mode fifth : ℕ) → fifth ≡ fifth_word mode → 6 ≤ length words
-      → (eqb (get_or words 0 0) 0x000 && (eqb (get_or words 1 0) 0x3FF && (eqb (get_or words 2 0) 0x3FF
-      && (eqb (get_or words 3 0) 0x260 && (eqb (get_or words 4 0) fifth && eqb (get_or words 5 0) 0x110)))))
-      ≡ is_headed mode words
-  unfolding is_headed header same
-  headed mode fifth told h =
-      let six = next 0 5 (omega arith) (next 1 4 (omega arith) (next 2 3 (omega arith) (next 3 2 (omega arith) (next 4 1 (omega arith) (next 5 0 (omega arith) refl))))) in
-      sym (ap (λ (l : List ℕ). same l (header mode)) six ∙ rw (← told, and-true (eqb (get_or words 5 0) 0x110)))
+headed :
+    (mode fifth : ℕ) (words : List ℕ) → fifth ≡ fifth_word mode
+    → pointwise eqb (take 6 words) (0x000 ∷ 0x3FF ∷ 0x3FF ∷ 0x260 ∷ fifth ∷ 0x110 ∷ []) ≡ is_headed mode words
+unfolding is_headed header
+headed mode fifth words told = alike (take 6 words) (0x000 ∷ 0x3FF ∷ 0x3FF ∷ 0x260 ∷ fifth ∷ 0x110 ∷ []) ∙ rw told
 
 pub returns : goal.returns
-returns c = headed _ _ _ (search rules) (omega arith)
+returns c = c.eq.ensures ∙ headed c.args.mode _ c.args.words.now c.fifth_word-fifth.ensures

@@ -17,8 +17,8 @@ module _ (r : Reader) (bit : ℕ) (passes : unreached r ≡ false) (small : bit 
   still_80 : 80 ≤ r.held → shifted_to r bit 80 ≡ reader_with r.mode r.ways (push (held_bits r) bit)
   still_80 h = let next : min (r.held + 1) 80 ≡ 80 = omega arith in rw next at (shifted_is_pushed r low high passes bit small)
 
-pub returns-then-held-lt80 : goal.returns-then-held-lt80
-returns-then-held-lt80 c = search (one_more, rules)
+pub returns-then-reader-lt80 : goal.returns-then-reader-lt80
+returns-then-reader-lt80 c = search (one_more, rules)
 
 pub returns : goal.returns
 returns c = search (still_80, rules)

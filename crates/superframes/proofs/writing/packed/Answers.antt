@@ -97,8 +97,8 @@ module _ (rate : Rate) (last : ℕ) (r : Record) (three : ℕ) (spread_so : thre
 pub returns-in_err-info : goal.returns-in_err-info
 returns-in_err-info c = passed_on c.from_residual.ensures.1 (search (refused, c.in_err-info.was))
 
-pub overflow_add-whole-2 : goal.overflow_add-whole-2
-overflow_add-whole-2 c = search (fits, c.in_ok-info.was)
+pub overflow_add-result-2 : goal.overflow_add-result-2
+overflow_add-result-2 c = search (fits, c.in_ok-info.was)
 
 pub returns-in_err-judge : goal.returns-in_err-judge
 returns-in_err-judge c = passed_on c.from_residual-in_err-judge.ensures.1 (search (turned_away, c.in_ok-info.was, c.in_err-judge.was))
