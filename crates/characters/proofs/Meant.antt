@@ -49,13 +49,6 @@ few_bits (c ∷ cs) = go (is_skipped c) (is_digit c) refl refl (few_bits cs)
     go false true s t h = rw (s, t) (omega arith)
     go false false s t h = rw (s, t) (omega arith)
 
-pub digit_high : (c : ℕ) → is_digit c ≡ true → zero_digit ≤ c
-digit_high c e = go (eqb c zero_digit) refl
-  where
-    go : (t : Bool) → eqb c zero_digit ≡ t → zero_digit ≤ c
-    go true t = omega (arith, eqb-true c zero_digit t)
-    go false t = omega (arith, eqb-true c one_digit (rw t at e))
-
 -- a character 0 or 1 is the bit 0 or 1
 digit_low : (c : ℕ) → is_digit c ≡ true → c - zero_digit ≤ 1
 digit_low c e = go (eqb c zero_digit) refl

@@ -10,11 +10,7 @@ use Rattle.runs.specs.Run.{placed}
 use Rattle.text.specs.Ascii.{zero_digit}
 use Rattle.characters.specs.Characters.{is_skipped, is_digit, bits_in, sifted_of}
 use Rattle.characters.specs.Loops.{Sifting}
-use Rattle.characters.proofs.Meant.{digit_high}
 use Rattle.characters.proofs.Sifts.{behind, sift_long, sift_skips, sift_takes, sift_stops, sift_ends}
-
-pub is_high : (c : ℕ) (digit : Bool) → digit ≡ is_digit c → digit ≡ true → zero_digit ≤ c
-is_high c digit asked t = digit_high c (sym asked ∙ t)
 
 module _ (whole run : List ℕ) (read write : ℕ) (s : Sifting whole run read write) (low : read < length whole) where
   there : read < length run

@@ -1,4 +1,4 @@
-// An address and eight groups as they stand in a line.
+// An address and eight groups as they stand in a line: arrays, and no `Display`, since the two calls promise the characters.
 ghost use Rattle.std.specs.Prelude.{◌≡◌, [], ◌∷◌, ◌++◌};
 ghost use Rattle.text.specs.Ascii.{space, line_feed};
 ghost use Rattle.figures.specs.Figures.{before_frames, address_text, groups_text};

@@ -13,6 +13,7 @@ use text::{append, append_decimal};
 // Room for any line. The longest has 42 characters: 20 digits of bits so far, 11 of an address, 8 of groups, two spaces and a line feed.
 pub const ROOM: usize = 64;
 
+// A run and a place go side by side, as `text::append` takes them; no `Display`, since `line` and `end_line` promise the characters.
 fn lay_accepted(r: Record, text: &mut [u8], at: usize) -> usize
     requires { at + 22 ≤ length text.old }
     ensures { (result ≡ at + length (accepted_text r)) × (text.new ≡ placed at (accepted_text r) text.old) }

@@ -9,6 +9,7 @@ pub struct Scribe {
 }
 
 // The scribe after a piece of characters, and the length of the lines that it wrote at the start of the lent run.
+// A length and no slice: `tell` promises of the whole lent run what it leaves.
 #[derive(Clone, Copy)]
 pub struct Telling {
     pub scribe: Scribe,

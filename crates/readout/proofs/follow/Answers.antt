@@ -11,9 +11,6 @@ use Rattle.readout.proofs.follow.Goals as goal
 pub loop-now-init : goal.loop-now-init
 loop-now-init c = (subst Brought (sym c.fresh-now.ensures) fresh, refl, refl)
 
-pub told_piece-told-requires : goal.told_piece-told-requires
-told_piece-told-requires c = (c.loop-now.invariant.0, omega (arith, c.loop-now.invariant.1, c.loop-now.invariant.2, c.requires))
-
 pub slice_bounds-write_all-end : goal.slice_bounds-write_all-end
 slice_bounds-write_all-end c = within _ _ c.told_piece-told.ensures
 
@@ -28,6 +25,3 @@ loop-now-smaller c = grows_less _ _ c.told_piece-told.ensures (omega arith)
 
 pub loop-now-preserved : goal.loop-now-preserved
 loop-now-preserved c = (goes_on _ _ c.told_piece-told.ensures c.loop-now.invariant.0, search rules, search rules)
-
-pub returns-clause-ended : goal.returns-clause-ended
-returns-clause-ended c = (c.loop-now.invariant.0, omega arith)

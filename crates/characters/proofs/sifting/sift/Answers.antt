@@ -1,9 +1,8 @@
 -- `characters::sifting::sift` meets its contract. At each turn the bits of the characters read stand at the run's start.
 -- Assumes nothing.
 use native.Mathlib.Omega.{arith}
-use lib.ListN.{get_or}
-use Rattle.characters.proofs.Sifts.{behind, sift_begins, sift_long}
-use Rattle.characters.proofs.SiftTests.{is_high, writes, skips, takes, stops, ends}
+use Rattle.characters.proofs.Sifts.{behind, sift_begins}
+use Rattle.characters.proofs.SiftTests.{writes, skips, takes, stops, ends}
 use Rattle.characters.proofs.sifting.sift.Goals as goal
 
 pub loop-read-init : goal.loop-read-init
@@ -11,11 +10,6 @@ loop-read-init c = search sift_begins
 
 pub loop-read-preserved-then-is_skipped : goal.loop-read-preserved-then-is_skipped
 loop-read-preserved-then-is_skipped c = search skips
-
-pub overflow_sub-run : goal.overflow_sub-run
-overflow_sub-run c =
-    let turn = c.loop-read in
-    omega (arith, is_high (get_or turn.run turn.read 0) _ c.is_digit.ensures c.if-is_digit.true)
 
 pub bounds-run-write : goal.bounds-run-write
 bounds-run-write c = search writes
@@ -26,14 +20,8 @@ overflow_add-write c = omega (arith, behind _ _ _ _ c.loop-read.invariant)
 pub loop-read-preserved : goal.loop-read-preserved
 loop-read-preserved c = search takes
 
-pub shape_of-run-in-loop-read : goal.shape_of-run-in-loop-read
-shape_of-run-in-loop-read c = search sift_long
-
 pub returns-in-loop-read : goal.returns-in-loop-read
 returns-in-loop-read c = stops _ _ _ _ c.loop-read.invariant c.loop-read-test.true _ c.is_skipped.ensures _ c.is_digit.ensures c.if-is_skipped.false c.if-is_digit.false
-
-pub shape_of-run : goal.shape_of-run
-shape_of-run c = search sift_long
 
 pub returns : goal.returns
 returns c = ends _ _ _ _ c.loop-read.invariant c.loop-read-test.false

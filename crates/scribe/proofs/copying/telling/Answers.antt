@@ -1,11 +1,7 @@
 -- `scribe::copying::telling` meets its contract: the characters that count, sifted where they stand, are the bits that are told.
 -- Assumes nothing.
-use Rattle.std.proofs.Common.{refl}
-use Rattle.scribe.proofs.Tells.{all_count, bits_within, sized, run_ready, told_whole}
+use Rattle.scribe.proofs.Tells.{bits_within, sized, run_ready, told_whole}
 use Rattle.scribe.proofs.copying.telling.Goals as goal
-
-pub slice_bounds-sift-end-2 : goal.slice_bounds-sift-end-2
-slice_bounds-sift-end-2 c = all_count c.args.before _ _ c.min-end.ensures refl refl
 
 pub slice_bounds-told_run-end : goal.slice_bounds-told_run-end
 slice_bounds-told_run-end c = bits_within c.args.before _ _ c.min-end.ensures c.sift-sifted.ensures.0 c.sift-sifted.ensures.1

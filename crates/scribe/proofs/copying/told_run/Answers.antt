@@ -1,7 +1,7 @@
 -- `scribe::copying::told_run` meets its contract. At each turn the lines of the bits taken stand at the start of the lent run; what is left to do is the bits
 -- that no block has taken yet.
 -- Assumes nothing.
-use Rattle.scribe.proofs.Follows.{some_left, none_left, following_begins, following_long, following_ends, stays_within, grows_shorter, following_turns}
+use Rattle.scribe.proofs.Follows.{some_left, none_left, following_begins, following_ends, stays_within, grows_shorter, following_turns}
 use Rattle.scribe.proofs.copying.told_run.Goals as goal
 
 pub loop-rest-init : goal.loop-rest-init
@@ -20,9 +20,6 @@ pub loop-rest-preserved : goal.loop-rest-preserved
 loop-rest-preserved c =
     let told = c.told_block-told.ensures in
     following_turns _ _ _ _ _ _ _ _ _ c.loop-rest.invariant (some_left _ c.is_empty.ensures c.loop-rest-test.true) _ told.0 _ told.1
-
-pub shape_of-out : goal.shape_of-out
-shape_of-out c = following_long _ _ _ _ _ _ _ _ _ c.loop-rest.invariant
 
 pub returns : goal.returns
 returns c = following_ends _ _ _ _ _ _ _ _ _ c.loop-rest.invariant (none_left _ c.is_empty.ensures c.loop-rest-test.false)
