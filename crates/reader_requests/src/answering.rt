@@ -46,9 +46,9 @@ fn answer_block(mut fields: Fields, answer: &mut Answer) -> Option<()>
     let before = reader_held(&mut fields, mode, ways)?;
     let limit = fields.start()?;
     let mut run = [0u8; LONGEST_LINE];
-    let length = fields.bits(&mut run)?;
+    let bits = fields.bits(&mut run)?;
     fields.end()?;
-    put_blocked(answer, reader::block(before, limit, &run[..length]));
+    put_blocked(answer, reader::block(before, limit, bits));
     Some(())
 }
 

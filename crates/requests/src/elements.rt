@@ -11,10 +11,10 @@ pub fn bits_in(text: &[u8], run: &mut [u8]) -> Option<usize>
     if text == b"-".as_slice() {
         return Some(0);
     }
-    if text.is_empty() || run.len() < text.len() {
+    if text.is_empty() {
         return None;
     }
-    for (place, character) in run.iter_mut().zip(text) {
+    for (place, character) in run.get_mut(..text.len())?.iter_mut().zip(text) {
         *place = digit_of(*character).filter(|digit| *digit < 10)?;
     }
     Some(text.len())
@@ -35,29 +35,29 @@ fn words_in(text: &[u8], run: &mut [u16]) -> Option<usize>
     if text == b"-".as_slice() {
         return Some(0);
     }
-    let mut count = 0;
-    for word in text.split(|c| *c == b',') {
-        if count == run.len() {
-            return None;
-        }
-        run[count] = word_in(word)?;
-        count += 1;
+    let count = text.split(|c| *c == b',').count();
+    let words = text.split(|c| *c == b',');
+    for (place, word) in run.get_mut(..count)?.iter_mut().zip(words) {
+        *place = word_in(word)?;
     }
     Some(count)
 }
 
 impl<'a> Fields<'a> {
-    pub fn bits(&mut self, run: &mut [u8]) -> Option<usize>
+    // The elements, in the run that is lent for them.
+    pub fn bits<'r>(&mut self, run: &'r mut [u8]) -> Option<&'r [u8]>
         ensures missing { IsNone self.old.rest → IsNone result }
-        ensures bounded { IfSome result (λ count. count ≤ length run.old) }
+        ensures bounded { IfSome result (λ bits. length bits.now ≤ length run.old) }
     {
-        bits_in(self.next_field()?, run)
+        let count = bits_in(self.next_field()?, run)?;
+        Some(&run[..count])
     }
 
-    pub fn words(&mut self, run: &mut [u16]) -> Option<usize>
+    pub fn words<'r>(&mut self, run: &'r mut [u16]) -> Option<&'r [u16]>
         ensures missing { IsNone self.old.rest → IsNone result }
-        ensures bounded { IfSome result (λ count. count ≤ length run.old) }
+        ensures bounded { IfSome result (λ words. length words.now ≤ length run.old) }
     {
-        words_in(self.next_field()?, run)
+        let count = words_in(self.next_field()?, run)?;
+        Some(&run[..count])
     }
 }

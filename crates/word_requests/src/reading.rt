@@ -45,9 +45,8 @@ pub fn answer_bits_read(carrier: Carrier, mut fields: Fields, answer: &mut Answe
 {
     let mode = fields.byte()?;
     let mut run = [0u8; LONGEST_LINE];
-    let length = fields.bits(&mut run)?;
+    let bits = fields.bits(&mut run)?;
     fields.end()?;
-    let bits = &run[..length];
     match carrier {
         Carrier::Ltc => put_word(answer, ltc::read(mode, bits)),
         Carrier::Vitc => put_unpacked(answer, vitc::read(mode, bits)),
@@ -62,8 +61,8 @@ pub fn answer_words_read(mut fields: Fields, answer: &mut Answer) -> Option<()>
     let interface = face_told(fields.byte()?)?;
     // A line of 2,000 characters has fewer words than this.
     let mut run = [0u16; 500];
-    let length = fields.words(&mut run)?;
+    let words = fields.words(&mut run)?;
     fields.end()?;
-    put_packet(answer, atc::read(mode, interface, &run[..length]));
+    put_packet(answer, atc::read(mode, interface, words));
     Some(())
 }
