@@ -18,7 +18,7 @@ fn request_named(name: &[u8]) -> Option<Request> {
     }
 }
 
-// REVERSE: whether it is allowed.
+// REVERSE: whether it is allowed. No `From`: both types are other crates'.
 fn ways_of(reverse: Flag) -> Ways {
     match reverse {
         Flag::No => Ways::ForwardOnly,
@@ -46,9 +46,9 @@ fn answer_block(mut fields: Fields, answer: &mut Answer) -> Option<()>
     let before = reader_held(&mut fields, mode, ways)?;
     let limit = fields.start()?;
     let mut run = [0u8; LONGEST_LINE];
-    let bits = fields.bits(&mut run)?;
+    let length = fields.bits(&mut run)?;
     fields.end()?;
-    put_blocked(answer, reader::block(before, limit, bits));
+    put_blocked(answer, reader::block(before, limit, &run[..length]));
     Some(())
 }
 

@@ -1,5 +1,6 @@
 // Fields that hold the elements of a run: BITS and WORDS, `-` for the empty run.
 ghost use Rattle.std.specs.Prelude.{◌≤◌, length, IfSome, IsNone};
+ghost use Rattle.requests.specs.Parsing.{rest_of};
 
 use crate::fields::Fields;
 use crate::numbers::{digit_of, number_in};
@@ -44,20 +45,18 @@ fn words_in(text: &[u8], run: &mut [u16]) -> Option<usize>
 }
 
 impl<'a> Fields<'a> {
-    // The elements, in the run that is lent for them.
-    pub fn bits<'r>(&mut self, run: &'r mut [u8]) -> Option<&'r [u8]>
-        ensures missing { IsNone self.old.rest → IsNone result }
-        ensures bounded { IfSome result (λ bits. length bits.now ≤ length run.old) }
+    // How many there are, and no slice of the run: of a run that the result borrows from, a caller would not know that it keeps its length.
+    pub fn bits(&mut self, run: &mut [u8]) -> Option<usize>
+        ensures missing { IsNone (rest_of self.old) → IsNone result }
+        ensures bounded { IfSome result (λ count. count ≤ length run.old) }
     {
-        let count = bits_in(self.next_field()?, run)?;
-        Some(&run[..count])
+        bits_in(self.next_field()?, run)
     }
 
-    pub fn words<'r>(&mut self, run: &'r mut [u16]) -> Option<&'r [u16]>
-        ensures missing { IsNone self.old.rest → IsNone result }
-        ensures bounded { IfSome result (λ words. length words.now ≤ length run.old) }
+    pub fn words(&mut self, run: &mut [u16]) -> Option<usize>
+        ensures missing { IsNone (rest_of self.old) → IsNone result }
+        ensures bounded { IfSome result (λ count. count ≤ length run.old) }
     {
-        let count = words_in(self.next_field()?, run)?;
-        Some(&run[..count])
+        words_in(self.next_field()?, run)
     }
 }

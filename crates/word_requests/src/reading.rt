@@ -45,8 +45,9 @@ pub fn answer_bits_read(carrier: Carrier, mut fields: Fields, answer: &mut Answe
 {
     let mode = fields.byte()?;
     let mut run = [0u8; LONGEST_LINE];
-    let bits = fields.bits(&mut run)?;
+    let length = fields.bits(&mut run)?;
     fields.end()?;
+    let bits = &run[..length];
     match carrier {
         Carrier::Ltc => put_word(answer, ltc::read(mode, bits)),
         Carrier::Vitc => put_unpacked(answer, vitc::read(mode, bits)),
@@ -61,8 +62,8 @@ pub fn answer_words_read(mut fields: Fields, answer: &mut Answer) -> Option<()>
     let interface = face_told(fields.byte()?)?;
     // A line of 2,000 characters has fewer words than this.
     let mut run = [0u16; 500];
-    let words = fields.words(&mut run)?;
+    let length = fields.words(&mut run)?;
     fields.end()?;
-    put_packet(answer, atc::read(mode, interface, words));
+    put_packet(answer, atc::read(mode, interface, &run[..length]));
     Some(())
 }

@@ -9,7 +9,7 @@ use rates::Flag;
 use requests::Fields;
 use runs::Written;
 
-// "MAKE says in the same way which is to be written".
+// "MAKE says in the same way which is to be written". No `From`: both types are other crates'.
 fn make_told(flag: Flag) -> Found {
     match flag {
         Flag::No => Found::Corrected,
