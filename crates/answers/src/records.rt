@@ -2,17 +2,10 @@
 ghost use Rattle.answers.specs.Places.{Extended};
 
 use crate::text::Answer;
+use layout::bit;
 use pictures::Picture;
 use polarity::Found;
-use rates::Flag;
 use record::Record;
-
-fn bit(flag: Flag) -> u8 {
-    match flag {
-        Flag::No => 0,
-        Flag::Yes => 1,
-    }
-}
 
 // RECORD: `H M S F drop colour mark bgf0 bgf1 bgf2 G1 .. G8 P`.
 fn fields_of(record: Record) -> [u8; 19] {
@@ -27,12 +20,12 @@ fn fields_of(record: Record) -> [u8; 19] {
         address.minutes,
         address.seconds,
         address.frames.0,
-        bit(flags.drop),
-        bit(flags.colour),
-        bit(flags.mark),
-        bit(flags.bgf0),
-        bit(flags.bgf1),
-        bit(flags.bgf2),
+        bit(flags.drop) as u8,
+        bit(flags.colour) as u8,
+        bit(flags.mark) as u8,
+        bit(flags.bgf0) as u8,
+        bit(flags.bgf1) as u8,
+        bit(flags.bgf2) as u8,
         groups.group1,
         groups.group2,
         groups.group3,
@@ -45,7 +38,7 @@ fn fields_of(record: Record) -> [u8; 19] {
     ]
 }
 
-// "FOUND is 0 where a linear word was found corrected, 1 where uncorrected".
+// "FOUND is 0 where a linear word was found corrected, 1 where uncorrected". No `From`: the type is another crate's.
 fn found_number(found: Found) -> u8 {
     match found {
         Found::Corrected => 0,

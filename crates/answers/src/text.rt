@@ -2,7 +2,8 @@
 ghost use Rattle.std.specs.Prelude.{◌≡◌, length};
 ghost use Rattle.answers.specs.Places.{Extended};
 
-// The run that is lent for an answer, and where its next byte goes.
+// The run that is lent for an answer, and where its next byte goes. No `fmt::Write`: after an `Err` std says nothing of a writer, and what is
+// put keeps its promise where no place is left too.
 #[derive(Drop)]
 pub struct Answer<'a> {
     pub room: &'a mut [u8],

@@ -105,6 +105,7 @@ fn picture_given(mut fields: Fields, kinds: Field) -> Option<(u64, Given)> {
     Some((kind, Given::Fields(picture)))
 }
 
+// Beside `picture_in`, since a kind that counts addresses takes no place and gives none.
 fn address_in<K: CountsAddresses>(given: Given) -> Result<Address, Refusal> {
     match given {
         Given::Number(number) => K::from_number(number),

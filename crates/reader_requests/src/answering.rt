@@ -18,7 +18,7 @@ fn request_named(name: &[u8]) -> Option<Request> {
     }
 }
 
-// REVERSE: whether it is allowed.
+// REVERSE: whether it is allowed. No `From`: both types are other crates'.
 fn ways_of(reverse: Flag) -> Ways {
     match reverse {
         Flag::No => Ways::ForwardOnly,

@@ -6,7 +6,7 @@ use hearing::{Heard, Way};
 use reader::{Blocked, Stepped};
 use register::Reader;
 
-// WAY: 0 forward, 1 backward.
+// WAY: 0 forward, 1 backward. No `From`: the type is another crate's.
 fn way_number(way: Way) -> u8 {
     match way {
         Way::Forward => 0,

@@ -1,6 +1,6 @@
 -- How far the reading goes, where the output takes each answer.
 -- Assumes nothing.
-use Rattle.std.specs.Prelude.{◌≡◌, ℕ, ⊤}
+use Rattle.std.specs.Prelude.{◌≡◌, ⊤}
 use Rattle.rehearsal.specs.declared.types.End.{End}
 use Rattle.rehearsal.specs.declared.types.End.TheVariants.{Input, Pieces}
 

@@ -6,7 +6,7 @@
 // types      a line of the input, and how the reading of it ended
 #![tactic(auto)]
 
-ghost use Rattle.std.specs.Prelude.{◌≡◌, ◌≤◌, length, IfOk};
+ghost use Rattle.std.specs.Prelude.{IfOk};
 ghost use Rattle.rehearsal.specs.Ends.{IsLast};
 
 mod families;
@@ -14,8 +14,7 @@ mod types;
 
 use answers::Answer;
 use families::{answer, put_unknown};
-use std::io;
-use std::io::{Read, Stdin, Stdout, Write};
+use std::io::{self, Read, Stdin, Stdout, Write};
 use types::{End, Line};
 
 // The longest answer, to an `atc-write` into 400 words that is refused, has 1,610 characters and a line feed.
@@ -50,6 +49,12 @@ fn take_byte(output: &mut Stdout, byte: u8, line: &mut Line) -> io::Result<()> {
     written
 }
 
+fn take_bytes(output: &mut Stdout, piece: &[u8], line: &mut Line) -> io::Result<()> {
+    piece
+        .iter()
+        .try_for_each(|byte| take_byte(output, *byte, line))
+}
+
 // Reads what is there, and answers the lines that end in it before it reads on: a read that brings less than a piece ends nothing. A
 // proved loop has to end, and nothing says that an input does: so it counts its pieces, and stops by itself only after more than any
 // input has.
@@ -63,9 +68,7 @@ fn take_all(input: &mut Stdin, output: &mut Stdout, line: &mut Line) -> io::Resu
         if came == 0 {
             return Ok(End::Input);
         }
-        for byte in &piece[..came] {
-            take_byte(output, *byte, line)?;
-        }
+        take_bytes(output, &piece[..came], line)?;
         pieces += 1;
     }
     Ok(End::Pieces(pieces))

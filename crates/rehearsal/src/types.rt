@@ -1,10 +1,8 @@
 // A line of the input, and how the reading of it ended.
-ghost use Rattle.std.specs.Prelude.{◌≡◌};
-
 use requests::LONGEST_LINE;
 
 // What came past the last place was not kept: a line so long is no request.
-#[derive(Clone, Copy)]
+#[derive(Drop)]
 pub struct Line {
     kept: [u8; LONGEST_LINE],
     came: usize,

@@ -1,2 +1,2 @@
--- Parsing   what is told of a number, and the most that a field may hold
+-- Parsing   what is left of a line, and the most that a field may hold
 pub mod Parsing

@@ -1,10 +1,22 @@
--- The most that a field may hold, and an address in the numbers of a request.
+-- What stands after a field, the most that a field may hold, and an address in the numbers of a request.
 -- Assumes nothing.
-use Rattle.std.specs.Prelude.{ℕ, ◌+◌, ◌%◌, ◌≤◌, ◌<◌, List, get_or}
+use Rattle.std.specs.Prelude.{ℕ, ◌+◌, ◌%◌, ◌==◌, ◌≤◌, ◌<◌, nat_lt, if◌then◌else◌, Option, Some, None, List, length, get_or}
+use Rattle.std.specs.List.{position_or_len, after_first}
+use Rattle.std.specs.Option.{option_copied}
 use Rattle.rates.specs.declared.types.Address.{Address}
 use Rattle.rates.specs.Face.{showing}
+use Rattle.requests.specs.declared.fields.Fields.{Fields}
 use Rattle.requests.specs.declared.types.Field.{Field}
 use Rattle.requests.specs.declared.types.Field.TheVariants.{Byte, Count, Flag, Kind, HighKind, Length, Number, Start}
+
+-- what is left of a line, before the last field was taken
+abbrev pub rest_of : Fields → Option (List ℕ)
+rest_of fields = option_copied fields.rest
+
+-- what stands after the first separator, where the text has one
+abbrev pub rest_after : ℕ → List ℕ → Option (List ℕ)
+rest_after separator text =
+    (if nat_lt (position_or_len (λ c. c == separator) text) (length text) then Some (after_first (λ c. c == separator) text) else None)
 
 -- the most that a field may hold; a count is kept as how far it is above the lowest
 abbrev pub limit_of : Field → ℕ

@@ -1,5 +1,6 @@
 // Fields that hold the elements of a run: BITS and WORDS, `-` for the empty run.
 ghost use Rattle.std.specs.Prelude.{◌≤◌, length, IfSome, IsNone};
+ghost use Rattle.requests.specs.Parsing.{rest_of};
 
 use crate::fields::Fields;
 use crate::numbers::{digit_of, number_in};
@@ -11,10 +12,10 @@ pub fn bits_in(text: &[u8], run: &mut [u8]) -> Option<usize>
     if text == b"-".as_slice() {
         return Some(0);
     }
-    if text.is_empty() || run.len() < text.len() {
+    if text.is_empty() {
         return None;
     }
-    for (place, character) in run.iter_mut().zip(text) {
+    for (place, character) in run.get_mut(..text.len())?.iter_mut().zip(text) {
         *place = digit_of(*character).filter(|digit| *digit < 10)?;
     }
     Some(text.len())
@@ -35,27 +36,25 @@ fn words_in(text: &[u8], run: &mut [u16]) -> Option<usize>
     if text == b"-".as_slice() {
         return Some(0);
     }
-    let mut count = 0;
-    for word in text.split(|c| *c == b',') {
-        if count == run.len() {
-            return None;
-        }
-        run[count] = word_in(word)?;
-        count += 1;
+    let count = text.split(|c| *c == b',').count();
+    let words = text.split(|c| *c == b',');
+    for (place, word) in run.get_mut(..count)?.iter_mut().zip(words) {
+        *place = word_in(word)?;
     }
     Some(count)
 }
 
 impl<'a> Fields<'a> {
+    // How many there are, and no slice of the run: of a run that the result borrows from, a caller would not know that it keeps its length.
     pub fn bits(&mut self, run: &mut [u8]) -> Option<usize>
-        ensures missing { IsNone self.old.rest → IsNone result }
+        ensures missing { IsNone (rest_of self.old) → IsNone result }
         ensures bounded { IfSome result (λ count. count ≤ length run.old) }
     {
         bits_in(self.next_field()?, run)
     }
 
     pub fn words(&mut self, run: &mut [u16]) -> Option<usize>
-        ensures missing { IsNone self.old.rest → IsNone result }
+        ensures missing { IsNone (rest_of self.old) → IsNone result }
         ensures bounded { IfSome result (λ count. count ≤ length run.old) }
     {
         words_in(self.next_field()?, run)

@@ -1,7 +1,8 @@
 // Taking a line apart: fields that single spaces divide, and the numbers in them.
-ghost use Rattle.std.specs.Prelude.{◌≡◌, ◌==◌, ◌≤◌, ◌<◌, ◌↔◌, length, position, IsSome, IsNone, IfSome, MatchOption};
-ghost use Rattle.std.specs.List.{before_first, after_first};
-ghost use Rattle.requests.specs.Parsing.{limit_of, Limited};
+ghost use Rattle.std.specs.Prelude.{◌≡◌, ◌==◌, ◌≤◌, ◌<◌, ◌↔◌, length, position, IsSome, IsNone, IfSome, option_and_then};
+ghost use Rattle.std.specs.List.{before_first};
+ghost use Rattle.std.specs.Option.{option_copied, option_map};
+ghost use Rattle.requests.specs.Parsing.{rest_of, rest_after, limit_of, Limited};
 
 use crate::numbers::{count_in, number_in};
 use crate::types::Field;
@@ -15,7 +16,7 @@ fn first_place(text: &[u8], separator: u8) -> Option<usize>
 // A text at the first separator: what stands before it, and what stands after it, if there is one.
 pub fn part<'a>(text: &'a [u8], separator: u8) -> (&'a [u8], Option<&'a [u8]>)
     ensures first { result.0.now ≡ before_first (λ c. c == separator) text.now }
-    ensures rest { IfSome result.1 (λ r. r.now ≡ after_first (λ c. c == separator) text.now) }
+    ensures rest { option_copied result.1 ≡ rest_after separator text.now }
 {
     match first_place(text, separator) {
         Some(end) => (&text[..end], Some(&text[end + 1..])),
@@ -31,16 +32,15 @@ pub struct Fields<'a> {
 
 impl<'a> Fields<'a> {
     pub fn of(line: &'a [u8]) -> Fields<'a>
-        ensures { IfSome result.rest (λ r. r.now ≡ line.now) }
+        ensures { rest_of result ≡ Some line.now }
     {
         Fields { rest: Some(line) }
     }
 
     // The next field, up to a space or the line's end.
     pub fn next_field(&mut self) -> Option<&'a [u8]>
-        ensures found { IsSome result ↔ IsSome self.old.rest }
-        ensures field { MatchOption self.old.rest (IsNone result) (λ r. IfSome result (λ f. f.now ≡ before_first (λ c. c == 32) r.now)) }
-        ensures left { MatchOption self.old.rest (IsNone self.new.rest) (λ r. IfSome self.new.rest (λ l. l.now ≡ after_first (λ c. c == 32) r.now)) }
+        ensures field { option_copied result ≡ option_map (before_first (λ c. c == 32)) (rest_of self.old) }
+        ensures left { rest_of self.new ≡ option_and_then (rest_after 32) (rest_of self.old) }
     {
         let (field, rest) = part(self.rest?, b' ');
         self.rest = rest;
@@ -49,7 +49,7 @@ impl<'a> Fields<'a> {
 
     // A line is a request only if nothing is left of it.
     pub fn end(self) -> Option<()>
-        ensures { IsSome result ↔ IsNone self.entry.rest }
+        ensures { IsSome result ↔ IsNone (rest_of self.entry) }
     {
         match self.rest {
             Some(_) => None,
@@ -58,7 +58,7 @@ impl<'a> Fields<'a> {
     }
 
     pub fn number(&mut self, field: Field) -> Option<u64>
-        ensures missing { IsNone self.old.rest → IsNone result }
+        ensures missing { IsNone (rest_of self.old) → IsNone result }
         ensures bounded { IfSome result (λ n. n ≤ limit_of field) }
     {
         let text = self.next_field()?;
@@ -69,7 +69,7 @@ impl<'a> Fields<'a> {
     }
 
     pub fn numbers<const N: usize>(&mut self, form: &[Field; N]) -> Option<[u64; N]>
-        ensures missing { 0 < N → IsNone self.old.rest → IsNone result }
+        ensures missing { 0 < N → IsNone (rest_of self.old) → IsNone result }
         ensures bounded { IfSome result (λ numbers. Limited form.now numbers (length form.now)) }
     {
         let mut numbers = [0; N];

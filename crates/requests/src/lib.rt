@@ -16,5 +16,5 @@ mod values;
 pub use elements::bits_in;
 pub use fields::{Fields, part};
 pub use numbers::number_in;
-pub use types::{Field, LONGEST_LINE, RecordNumbers};
+pub use types::{Field, LONGEST_LINE};
 pub use values::{address_in, byte, count, day_frame, picture_in, record_in};

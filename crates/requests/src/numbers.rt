@@ -1,7 +1,7 @@
 // The numbers that texts say.
 ghost use Rattle.std.specs.Prelude.{◌≤◌, IfSome};
 
-// What a character is worth as a digit, upper case from 10 on.
+// What a character is worth as a digit, upper case from 10 on: `to_digit` takes lower case too, and `from_str_radix` a `+`.
 pub fn digit_of(character: u8) -> Option<u8>
     ensures { IfSome result (λ digit. digit ≤ 15) }
 {

@@ -16,6 +16,3 @@ pub enum Field {
     Number,
     Start,
 }
-
-// The numbers of RECORD.
-pub type RecordNumbers = [u64; 19];

@@ -9,7 +9,7 @@ use rates::Flag;
 use refusals::Refusal;
 use requests::Fields;
 
-// "MAKE says in the same way which is to be written".
+// "MAKE says in the same way which is to be written". No `From`: both types are other crates'.
 fn make_told(flag: Flag) -> Found {
     match flag {
         Flag::No => Found::Corrected,
