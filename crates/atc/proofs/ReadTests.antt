@@ -8,7 +8,6 @@ use lib.ListN.{length, take, drop}
 use Rattle.refusals.specs.declared.types.Refusal.{Refusal}
 use Rattle.std.specs.Prelude.{Err, Ok, Result}
 use Rattle.record.specs.declared.types.Record.{Record}
-use Rattle.atc.specs.declared.types.Contents.{Contents}
 use Rattle.refusals.specs.declared.types.Refusal.TheVariants.{OutsideTheClock, UnknownType}
 use Rattle.refusals.specs.Answer.{verdict_of}
 use Rattle.refusals.proofs.Answered.{Clear}

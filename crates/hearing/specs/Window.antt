@@ -8,7 +8,7 @@ use Rattle.std.specs.Prelude.{ℕ, ◌&&◌, cond, List, reverse, eqb, length, d
 use Rattle.runs.specs.Run.{same}
 use Rattle.record.specs.declared.types.Record.{Record}
 use Rattle.polarity.specs.declared.types.Found.{Found}
-use Rattle.polarity.specs.Word.{reading, sync_word}
+use Rattle.polarity.specs.Word.{sync_word}
 use Rattle.ltc.specs.Calls.{read_of}
 use Rattle.register.specs.declared.types.Ways.{Ways}
 use Rattle.register.specs.declared.types.Ways.TheVariants.{ForwardOnly, Both}

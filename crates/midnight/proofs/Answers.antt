@@ -1,13 +1,10 @@
 -- Where an address is clear of refusals the clock shows it, and where it has a number it is clear: said of what the calls answer. That numbers and addresses match one to one
 -- is said in the crate `pictures`, for any number of pictures to an address.
 -- Assumes nothing.
-use Prim.Native.Nat.{ℕ}
 use mathlib.Core.Path.{◌≡◌, refl, sym, ap, ◌∙◌}
 use mathlib.Core.Bool.{Bool, true, false, not, ◌&&◌, true≢false}
-use native.Mathlib.Omega.{arith}
 use lib.Dec.{lit<}
-use Rattle.refusals.specs.declared.types.Refusal.{Refusal}
-use Rattle.std.specs.Prelude.{Err, Ok, Result}
+use Rattle.std.specs.Prelude.{Ok}
 use Rattle.refusals.specs.declared.types.Refusal.TheVariants.{OutsideTheClock, SkippedAddress, UnusedBitSet}
 use Rattle.refusals.proofs.ByNumber.{clear_at}
 use Rattle.refusals.proofs.Answered.{Clear, neither}

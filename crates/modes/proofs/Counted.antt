@@ -4,7 +4,6 @@ use Prim.Native.Nat.{ℕ}
 use mathlib.Core.Path.{◌≡◌}
 use mathlib.Core.Bool.{false}
 use lib.IntN.{ℤ}
-use Rattle.std.specs.Prelude.{Err}
 use Rattle.rates.specs.declared.types.Flag.{Flag}
 use Rattle.clock.specs.declared.types.DayFrame.{DayFrame}
 use Rattle.pictures.specs.declared.types.Picture.{Picture}

@@ -8,7 +8,7 @@ use borrow.Author.Tests.{lt-leb}
 use lib.IntN.{ℤ, pos, negsuc, sub_ℕ}
 use lib.Signed.{◌≤ℤ◌, ◌<ℤ◌}
 use Rattle.refusals.specs.declared.types.Refusal.{Refusal}
-use Rattle.std.specs.Prelude.{Err, Ok, Result}
+use Rattle.std.specs.Prelude.{Err, Ok}
 use Rattle.refusals.specs.declared.types.Refusal.TheVariants.{UnusedBitSet}
 use Rattle.refusals.proofs.Answered.{Clear, otherwise_accepted}
 use Rattle.refusals.proofs.Results.{accepted_so, refused_alike}

@@ -1,15 +1,13 @@
 -- The number of a picture within its second: below the pictures of a second, and counted as the day's numbers are.
 -- Assumes nothing.
 use Prim.Native.Nat.{ℕ, ◌+◌, ◌-◌, ◌*◌, ◌/◌, ◌<◌}
-use mathlib.Core.Path.{◌≡◌, sym, ap, ◌∙◌}
+use mathlib.Core.Path.{◌≡◌, ap}
 use mathlib.Core.Bool.{Bool, true, false, cond}
-use mathlib.Core.List.{List}
 use mathlib.Core.Logic.{◌↔◌}
 use native.Mathlib.Omega.{arith}
 use Rattle.refusals.specs.declared.types.Refusal.{Refusal}
-use Rattle.std.specs.Prelude.{Err, Ok, Result}
+use Rattle.std.specs.Prelude.{Err, Ok}
 use Rattle.refusals.specs.declared.types.Refusal.TheVariants.{OutsideTheClock}
-use Rattle.refusals.specs.Answer.{Cause, answer}
 use Rattle.refusals.proofs.Answered.{Clear}
 use Rattle.refusals.proofs.Results.{accepted_so, refused_alike as alike}
 use Rattle.refusals.proofs.ByNumber.{clear_at}

@@ -54,9 +54,27 @@ fn packed(rate: Rate, r: Record) -> u64
         flags.colour,
         groups.group2,
     );
-    let second = quarter(address.seconds, groups.group3, Flag::No, at27, groups.group4);
-    let third = quarter(address.minutes, groups.group5, Flag::No, at43, groups.group6);
-    let fourth = quarter(address.hours, groups.group7, flags.bgf1, at59, groups.group8);
+    let second = quarter(
+        address.seconds,
+        groups.group3,
+        Flag::No,
+        at27,
+        groups.group4,
+    );
+    let third = quarter(
+        address.minutes,
+        groups.group5,
+        Flag::No,
+        at43,
+        groups.group6,
+    );
+    let fourth = quarter(
+        address.hours,
+        groups.group7,
+        flags.bgf1,
+        at59,
+        groups.group8,
+    );
     first + 0x1_0000 * (second + 0x1_0000 * (third + 0x1_0000 * fourth))
 }
 

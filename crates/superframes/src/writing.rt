@@ -39,7 +39,13 @@ fn packed(counting: Counting, r: Record) -> Result<u64, Refusal>
     let info = record::to_bits(rate, bare_flagged(three, r))?;
     let outside = pictures::is_place_outside(last, r.place);
     let flags = r.flags;
-    rates::judge(rate, flags.drop, r.address, outside, has_flag_besides_drop(flags))?;
+    rates::judge(
+        rate,
+        flags.drop,
+        r.address,
+        outside,
+        has_flag_besides_drop(flags),
+    )?;
     let second = flag(three / 2 % 2);
     Ok(info + 0x400 * (bit(flags.drop) + 2 * bit(second)))
 }

@@ -1,12 +1,11 @@
 -- 11 is given exactly where the record stands and another picture is asked for than a word, a line or a packet shows, or, on the linear track, a mark.
 -- Assumes nothing.
 use Prim.Native.Nat.{ℕ}
-use mathlib.Core.Path.{◌≡◌, refl}
+use mathlib.Core.Path.{◌≡◌}
 use mathlib.Core.Bool.{true, false, cond}
 use mathlib.Core.List.{List}
 use mathlib.Core.Logic.{◌↔◌}
-use native.Mathlib.Omega.{arith}
-use Rattle.std.specs.Prelude.{Err, Ok}
+use Rattle.std.specs.Prelude.{Err}
 use Rattle.refusals.specs.declared.types.Refusal.TheVariants.{MarkSet, OutsideTheClock, UnknownMode, UnknownType}
 use Rattle.refusals.proofs.Answered.{Clear}
 use Rattle.refusals.proofs.ByNumber.{rows_from, rows_before, clear_at, clear_from, clear_before, clear_whole}

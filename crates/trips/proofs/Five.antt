@@ -5,12 +5,9 @@ use mathlib.Core.Path.{◌≡◌, refl, sym}
 use mathlib.Core.Bool.{Bool, true, false, ◌&&◌, true≢false}
 use mathlib.Core.List.{List}
 use mathlib.Core.Logic.{◌↔◌}
-use native.Mathlib.Omega.{arith}
 use lib.ListN.{length, drop}
 use borrow.Author.Tests.{eqb-true, eq-eqb, not-false}
-use Rattle.polarity.specs.declared.types.Word.{Word}
-use Rattle.refusals.specs.declared.types.Refusal.{Refusal}
-use Rattle.std.specs.Prelude.{Err, Result, Ok}
+use Rattle.std.specs.Prelude.{Err}
 use Rattle.refusals.specs.declared.types.Refusal.TheVariants.{ElementTooHigh, UnknownMode, WrongCheck, WrongLength, WrongSync}
 use Rattle.refusals.specs.Answer.{Cause}
 use Rattle.refusals.proofs.ByNumber.{rows_before, clear_at}
@@ -22,7 +19,7 @@ use Rattle.rates.specs.declared.types.Flag.{Flag}
 use Rattle.rates.specs.declared.types.Flag.TheVariants.{No, Yes}
 use Rattle.rates.specs.Rates.{is_yes}
 use Rattle.modes.specs.Modes.{unknown, rate_at}
-use Rattle.polarity.specs.Word.{reading, sync_word, odd_zeros, polarity_bit}
+use Rattle.polarity.specs.Word.{sync_word, odd_zeros, polarity_bit}
 use Rattle.ltc.specs.Calls.{read_refusals, read_of}
 use Rattle.ltc.proofs.Rows.{read_rows_in_order}
 

@@ -9,9 +9,7 @@ use mathlib.Core.Logic.{◌↔◌, ◌⊎◌, inl, inr, ⊎_elim}
 use native.Mathlib.Omega.{arith}
 use lib.Dec.{ltb, eqb}
 use borrow.Author.Tests.{eqb-true, not-false}
-use Rattle.atc.specs.declared.types.Contents.{Contents}
-use Rattle.refusals.specs.declared.types.Refusal.{Refusal}
-use Rattle.std.specs.Prelude.{Err, Ok, Result}
+use Rattle.std.specs.Prelude.{Err}
 use Rattle.refusals.specs.declared.types.Refusal.TheVariants.{ImpossibleLine, MisnamedMode, UnknownMode, UnknownType}
 use Rattle.refusals.specs.Answer.{Cause}
 use Rattle.refusals.proofs.Answered.{Clear}

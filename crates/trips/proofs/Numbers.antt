@@ -4,7 +4,7 @@ use Prim.Native.Nat.{ℕ}
 use mathlib.Core.Path.{◌≡◌, ◌∙◌}
 use mathlib.Core.Logic.{◌↔◌}
 use lib.IntN.{ℤ}
-use Rattle.std.specs.Prelude.{Err, Ok}
+use Rattle.std.specs.Prelude.{Ok}
 use Rattle.rates.specs.declared.types.Flag.{Flag}
 use Rattle.clock.specs.declared.types.DayFrame.{DayFrame}
 use Rattle.pictures.specs.declared.types.Picture.{Picture}

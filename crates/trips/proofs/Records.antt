@@ -11,8 +11,7 @@ use lib.ListN.{get_or, take}
 use borrow.Author.Tests.{ltb-false, le-ltb}
 use Rattle.refusals.proofs.Results.{accepted_so}
 use Rattle.refusals.specs.declared.types.Refusal.TheVariants.{OutsideTheClock, SkippedAddress, UnusedBitSet}
-use Rattle.std.specs.Prelude.{Err, Ok, Result}
-use Rattle.refusals.specs.declared.types.Refusal.{Refusal}
+use Rattle.std.specs.Prelude.{Err, Ok}
 use Rattle.refusals.specs.Answer.{Cause}
 use Rattle.refusals.proofs.Answered.{Clear, neither, otherwise_accepted}
 use Rattle.refusals.proofs.ByNumber.{clear_at}

@@ -6,15 +6,13 @@ use mathlib.Core.Path.{◌≡◌, refl, sym, ap, subst, ◌∙◌}
 use mathlib.Core.Bool.{false, ◌&&◌}
 use mathlib.Core.List.{List}
 use mathlib.Core.Logic.{◌↔◌}
-use native.Mathlib.Omega.{arith}
 use lib.Dec.{eqb}
 use lib.ListN.{length, take, drop}
 use borrow.Author.Tests.{eqb-true, not-false}
 use Rattle.refusals.proofs.Results.{accepted_so}
-use Rattle.std.specs.Prelude.{Err, Ok, Result}
+use Rattle.std.specs.Prelude.{Err, Ok}
 use Rattle.refusals.specs.declared.types.Refusal.TheVariants.{ElementTooHigh, MarkSet, NoRoom, OutsideTheClock, SkippedAddress, UnknownMode, UnusedBitSet, WrongCheck, WrongLength, WrongSync}
 use Rattle.polarity.specs.declared.types.Word.{Word}
-use Rattle.refusals.specs.declared.types.Refusal.{Refusal}
 use Rattle.refusals.specs.Answer.{Cause}
 use Rattle.refusals.proofs.Answered.{Clear, neither, otherwise_accepted}
 use Rattle.refusals.proofs.ByNumber.{clear_at, clear_from, clear_before, clear_whole}

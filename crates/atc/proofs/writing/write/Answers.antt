@@ -1,7 +1,7 @@
 -- `atc::writing::write` meets its contract: the mode is tested, the type and the second byte are judged, the record refuses as its own rows do, and by 11 where another
 -- picture is shown, and the rest is the packet's own answer.
 -- Assumes nothing.
-use mathlib.Core.Path.{◌≡◌, sym, ◌∙◌}
+use mathlib.Core.Path.{sym, ◌∙◌}
 use Rattle.refusals.proofs.Results.{passed_on}
 use Rattle.atc.proofs.WriteTests.{told, no_mode, no_payload, no_record, placed}
 use Rattle.atc.proofs.writing.write.Goals as goal

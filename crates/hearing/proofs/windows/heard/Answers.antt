@@ -1,15 +1,12 @@
 -- `hearing::windows::heard` meets its contract: where the register does not end in the sync word it is looked at backward, and where it is full and does, it is read.
 -- Assumes nothing.
 use mathlib.Core.Path.{◌≡◌, ap, sym, ◌∙◌}
-use Prim.Native.Nat.{ℕ, ◌^◌, ◌≤◌, ◌<◌}
+use Prim.Native.Nat.{◌^◌, ◌≤◌, ◌<◌}
 use borrow.Author.Tests.{ne_eqb}
 use borrow.Author.Rules.{rules}
-use Rattle.polarity.specs.Word.{reading}
 use Rattle.polarity.specs.declared.types.Word.{Word}
 use Rattle.refusals.specs.declared.types.Refusal.{Refusal}
 use Rattle.std.specs.Prelude.{Err, Result, Ok}
-use Rattle.record.specs.declared.types.Record.{Record}
-use Rattle.polarity.specs.declared.types.Found.{Found}
 use Rattle.polarity.specs.Heard.{heard_of}
 use Rattle.register.specs.declared.types.Reader.{Reader}
 use Rattle.register.specs.Held.{held_bits}

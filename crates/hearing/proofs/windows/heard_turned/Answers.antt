@@ -5,13 +5,10 @@ use mathlib.Core.List.{reverse}
 use Prim.Native.Nat.{ℕ, ◌+◌, ◌*◌, ◌/◌, ◌%◌, ◌^◌, ◌≤◌, ◌<◌}
 use borrow.Author.Tests.{ne_eqb}
 use borrow.Author.Rules.{rules}
-use Rattle.polarity.specs.Word.{reading}
 use Rattle.polarity.specs.declared.types.Word.{Word}
 use Rattle.refusals.specs.declared.types.Refusal.{Refusal}
 use Rattle.std.specs.Prelude.{Err, Result, Ok}
 use Rattle.bits.specs.Bits.{value, to_bits}
-use Rattle.record.specs.declared.types.Record.{Record}
-use Rattle.polarity.specs.declared.types.Found.{Found}
 use Rattle.polarity.specs.Heard.{heard_of}
 use Rattle.register.specs.declared.types.Reader.{Reader}
 use Rattle.register.specs.declared.types.Ways.TheVariants.{Both}

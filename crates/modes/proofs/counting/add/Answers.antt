@@ -1,14 +1,11 @@
 -- `modes::counting::add` meets its contract: 2, and else what is answered by the mode's row.
 -- Assumes nothing.
 use mathlib.Core.Path.{◌≡◌, ap, ◌∙◌}
-use mathlib.Core.Bool.{Bool, true, false}
 use Prim.Native.Nat.{ℕ, ◌+◌}
 use lib.IntN.{ℤ}
 use mir.Facts.{to_z-of_z}
 use Rattle.std.specs.Prelude.{Ok, Err, Result}
-use Rattle.refusals.specs.declared.types.Refusal.TheVariants.{UnknownMode}
 use Rattle.refusals.specs.declared.types.Refusal.{Refusal}
-use Rattle.rates.specs.declared.types.Rate.{Rate}
 use Rattle.rates.specs.declared.types.Flag.{Flag}
 use Rattle.pictures.specs.declared.types.Picture.{Picture}
 use Rattle.pictures.specs.Calls.{plus_of}

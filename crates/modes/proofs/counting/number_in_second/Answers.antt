@@ -1,13 +1,10 @@
 -- `modes::counting::number_in_second` meets its contract: 2, and else what is answered by the mode's row.
 -- Assumes nothing.
 use mathlib.Core.Path.{◌≡◌}
-use mathlib.Core.Bool.{Bool, true, false}
 use Prim.Native.Nat.{ℕ, ◌+◌}
 use Rattle.std.specs.Prelude.{Ok, Err, Result}
-use Rattle.refusals.specs.declared.types.Refusal.TheVariants.{UnknownMode}
 use Rattle.pictures.specs.declared.types.PictureInSecond.{PictureInSecond}
 use Rattle.refusals.specs.declared.types.Refusal.{Refusal}
-use Rattle.rates.specs.declared.types.Rate.{Rate}
 use Rattle.rates.specs.declared.types.Flag.{Flag}
 use Rattle.pictures.specs.declared.types.Picture.{Picture}
 use Rattle.pictures.specs.Calls.{in_second_of}

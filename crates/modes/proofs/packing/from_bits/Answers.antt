@@ -1,10 +1,8 @@
 -- `modes::packing::from_bits` meets its contract: 2, and else what the record answers at the mode's rate.
 -- Assumes nothing.
 use mathlib.Core.Path.{◌≡◌, ◌∙◌}
-use mathlib.Core.Bool.{Bool, true, false}
 use Prim.Native.Nat.{ℕ}
 use Rattle.std.specs.Prelude.{Ok, Err, Result}
-use Rattle.refusals.specs.declared.types.Refusal.TheVariants.{UnknownMode}
 use Rattle.record.specs.declared.types.Record.{Record}
 use Rattle.refusals.specs.declared.types.Refusal.{Refusal}
 use Rattle.rates.specs.declared.types.Rate.{Rate}

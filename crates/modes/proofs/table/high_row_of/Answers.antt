@@ -1,12 +1,10 @@
 -- `modes::table::high_row_of` meets its contract: 2, and else the mode's row.
 -- Assumes nothing.
-use mathlib.Core.Path.{◌≡◌, refl, sym, ◌∙◌}
-use mathlib.Core.Bool.{Bool, true, false, not, ◌&&◌, true≢false}
-use Prim.Native.Nat.{ℕ, ◌+◌, ◌-◌}
-use native.Mathlib.Omega.{arith}
+use mathlib.Core.Path.{◌≡◌, refl, ◌∙◌}
+use mathlib.Core.Bool.{Bool, true, false, not, true≢false}
+use Prim.Native.Nat.{ℕ}
 use Rattle.std.specs.Prelude.{Result, Err}
 use Rattle.refusals.specs.declared.types.Refusal.TheVariants.{UnknownMode}
-use Rattle.rates.specs.declared.types.Rate.{Rate}
 use Rattle.pictures.specs.declared.types.Counting.{Counting}
 use Rattle.refusals.specs.declared.types.Refusal.{Refusal}
 use Rattle.modes.specs.Modes.{unknown, uncounted, high_rate, counting_of, high_row_of}

@@ -1,7 +1,7 @@
 -- `packets::placing::store_header` meets its contract: the six words are copied over a run of six.
 -- Assumes nothing.
 use mathlib.Core.Path.{◌≡◌, ◌∙◌}
-use mathlib.Core.List.{List, [], ◌∷◌}
+use mathlib.Core.List.{[], ◌∷◌}
 use Prim.Native.Nat.{ℕ}
 use Rattle.packets.specs.Packet.{fifth_word, header}
 use Rattle.packets.proofs.placing.store_header.Goals as goal

@@ -6,7 +6,7 @@ use Prim.Native.Nat.{ℕ}
 use Rattle.refusals.specs.declared.types.Refusal.{Refusal}
 use Rattle.refusals.proofs.Results.{passed_on}
 use Rattle.std.specs.Prelude.{Err, Ok, Result}
-use Rattle.refusals.specs.declared.types.Refusal.TheVariants.{UnknownMode, WrongCheck}
+use Rattle.refusals.specs.declared.types.Refusal.TheVariants.{WrongCheck}
 use Rattle.rates.specs.declared.types.Flag.TheVariants.{No}
 use Rattle.rates.specs.declared.types.Rate.{Rate}
 use Rattle.record.specs.declared.types.Record.{Record}

@@ -3,7 +3,7 @@
 use Prim.Native.Nat.{◌<◌}
 use mathlib.Core.Path.{◌≡◌, refl, sym}
 use native.Mathlib.Omega.{arith}
-use Rattle.std.specs.Prelude.{Err, Ok}
+use Rattle.std.specs.Prelude.{Ok}
 use Rattle.refusals.specs.Answer.{verdict_of}
 use Rattle.refusals.proofs.Verdicts.{sound_clear}
 use Rattle.rates.specs.declared.types.Rate.{Rate}

@@ -7,7 +7,6 @@ use lib.Dec.{eqb}
 use Rattle.pictures.specs.declared.types.Counting.{Counting}
 use Rattle.refusals.specs.declared.types.Refusal.{Refusal}
 use Rattle.std.specs.Prelude.{Ok, Err, Result}
-use Rattle.rates.specs.declared.types.Rate.{Rate}
 use Rattle.modes.specs.Modes.{high_row_of}
 use Rattle.modes.proofs.ByRate.{row_told, row_refused}
 use Rattle.superframes.specs.Named.{name_of, misnamed}

@@ -5,9 +5,7 @@ use mathlib.Core.Path.{◌≡◌, ◌∙◌}
 use Rattle.pictures.specs.declared.types.Counting.{Counting}
 use Rattle.refusals.specs.declared.types.Refusal.{Refusal}
 use Rattle.std.specs.Prelude.{Ok, Err, Result}
-use Rattle.refusals.specs.declared.types.Refusal.TheVariants.{UnknownMode}
 use Rattle.record.specs.declared.types.Record.{Record}
-use Rattle.rates.specs.declared.types.Rate.{Rate}
 use Rattle.refusals.proofs.Results.{passed_on}
 use Rattle.modes.specs.Modes.{high_row_of}
 use Rattle.modes.proofs.ByRate.{row_told, row_refused}
