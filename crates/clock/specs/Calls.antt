@@ -9,7 +9,6 @@ use Rattle.rates.specs.declared.types.Flag.{Flag}
 use Rattle.rates.specs.declared.types.Rate.{Rate}
 use Rattle.rates.specs.declared.types.Address.{Address}
 use Rattle.clock.specs.declared.types.DayFrame.{DayFrame}
--- each answer's last case is `Refused` with its number; the three are told apart here by what is refused
 use Rattle.rates.specs.Rates.{is_yes, frames_in_second, frames_in_day, may_drop}
 use Rattle.rates.specs.Refused.{refusals_of, refusals_of_two}
 use Rattle.clock.specs.Counting.{count_of, address_at}

@@ -1,7 +1,7 @@
 // Mode numbers: each is a rate and a number of pictures to an address, and a number past the tables is refused. The calls that count, in modes 0 to 10, and those of the record as
 // the linear track and the interval line carry it, in modes 0 to 5.
 //
-// types      what is answered of a mode, and which picture is shown
+// types      which picture is shown
 // table      the row of each mode, and which numbers are unknown
 // counting   pictures and their numbers
 // packing    64 information bits and a record

@@ -1,6 +1,6 @@
 // Requests for the reader: `step`, `block`. What is quoted in this crate is docs/REHEARSAL.md.
 //
-// types      what is asked for, and a reader that a request describes
+// types      what is asked for
 // answering  which request a line is, and its answer
 // holding    the reader that HELD describes
 // telling    what was heard, and what is held after it

@@ -1,6 +1,6 @@
 // The record: 64 information bits and what they say, at each rate.
 //
-// types      what a record and an answer are
+// types      what a record is
 // judging    what is turned away, in the bits and in a record alike
 // reading    from 64 information bits to a record
 // writing    from a record to 64 information bits
