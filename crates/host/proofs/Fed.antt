@@ -1,7 +1,6 @@
 -- A reader that is fed, a bit or a block, the same law for both: with ways that are none 2, 13 or 3 is given and the reader comes back as it was; else the reader answers, and what it refuses it too
 -- gives back as it was given.
 -- Assumes nothing.
-use Prim.Native.Nat.{ℕ}
 use mathlib.Core.Path.{◌≡◌, ap, ◌∙◌}
 use mathlib.Core.Bool.{Bool, true, false}
 use mathlib.Core.List.{List, ◌++◌}

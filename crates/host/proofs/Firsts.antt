@@ -4,9 +4,7 @@ use Prim.Native.Nat.{ℕ, zero, suc}
 use mathlib.Core.Path.{◌≡◌, refl, ap, sym, ◌∙◌}
 use mathlib.Core.Bool.{Bool, true, false, ◌||◌, cond}
 use mathlib.Core.List.{List, [], ◌∷◌, ◌++◌}
-use lib.Dec.{eqb}
 use lib.ListN.{take}
-use borrow.Author.Tests.{eqb-true}
 use Rattle.refusals.proofs.Same.{same-true}
 use Rattle.refusals.specs.Table.{same_refusal}
 use Rattle.refusals.specs.declared.types.Refusal.{Refusal}

@@ -3,7 +3,7 @@
 -- Assumes nothing.
 use Rattle.refusals.specs.declared.types.Refusal.{Refusal}
 use Rattle.refusals.specs.declared.types.Refusal.TheVariants.{ElementTooHigh, UnknownMode}
-use Rattle.std.specs.Prelude.{ℕ, Bool, List, [], ◌∷◌, ◌++◌}
+use Rattle.std.specs.Prelude.{Bool, List, [], ◌∷◌, ◌++◌}
 use Rattle.refusals.specs.Answer.{Cause, ◌when◌, answer}
 use Rattle.register.specs.declared.types.Reader.{Reader}
 use Rattle.reader.specs.Steps.{reader_refusals}

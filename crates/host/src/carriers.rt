@@ -6,7 +6,7 @@ use crate::unnamed::after_mode;
 use modes::{is_uncounted, is_unknown};
 use plain::{
     LineAnswer, PacketAnswer, PlainContents, PlainRecord, WordAnswer, has_flag_above_1,
-    interface_given, is_no_interface, is_no_make, make_given, record_given,
+    interface_given, is_no_interface, is_no_make, make_given,
 };
 use refusals::Refusal;
 
@@ -14,8 +14,7 @@ use refusals::Refusal;
 pub extern "C" fn shx_ltc_read(mode: u8, word: &[u8]) -> WordAnswer
     ensures { result ≡ ltc_read mode word.now }
 {
-    let answer = ltc::read(mode, word);
-    plain::word(answer)
+    ltc::read(mode, word).into()
 }
 
 #[unsafe(no_mangle)]
@@ -33,16 +32,14 @@ pub extern "C" fn shx_ltc_write(
     if no_flag | no_make {
         return plain::written(Err(after_mode(is_unknown(mode))));
     }
-    let answer = ltc::write(mode, record_given(r), make_given(make), start, run);
-    plain::written(answer)
+    plain::written(ltc::write(mode, r.into(), make_given(make), start, run))
 }
 
 #[unsafe(no_mangle)]
 pub extern "C" fn shx_vitc_read(mode: u8, line: &[u8]) -> LineAnswer
     ensures { result ≡ vitc_read mode line.now }
 {
-    let answer = vitc::read(mode, line);
-    plain::line(answer)
+    vitc::read(mode, line).into()
 }
 
 #[unsafe(no_mangle)]
@@ -53,8 +50,7 @@ pub extern "C" fn shx_vitc_write(mode: u8, r: PlainRecord, start: usize, run: &m
     if no_flag {
         return plain::written(Err(after_mode(is_unknown(mode))));
     }
-    let answer = vitc::write(mode, record_given(r), start, run);
-    plain::written(answer)
+    plain::written(vitc::write(mode, r.into(), start, run))
 }
 
 #[unsafe(no_mangle)]
@@ -63,13 +59,11 @@ pub extern "C" fn shx_atc_read(mode: u8, interface: u8, words: &[u16]) -> Packet
 {
     if is_no_interface(interface) {
         if words.len() != 23 {
-            return plain::packet(Err(Refusal::WrongLength));
+            return PacketAnswer::from(Err(Refusal::WrongLength));
         }
-        let code = after_mode(is_uncounted(mode));
-        return plain::packet(Err(code));
+        return PacketAnswer::from(Err(after_mode(is_uncounted(mode))));
     }
-    let answer = atc::read(mode, interface_given(interface), words);
-    plain::packet(answer)
+    atc::read(mode, interface_given(interface), words).into()
 }
 
 #[unsafe(no_mangle)]
@@ -89,15 +83,13 @@ pub extern "C" fn shx_atc_write(
     if no_flag | no_interface {
         return plain::written(Err(after_mode(is_uncounted(mode))));
     }
-    let named = interface_given(interface);
-    let answer = atc::write(
+    plain::written(atc::write(
         mode,
-        named,
-        record_given(r),
+        interface_given(interface),
+        r.into(),
         contents.payload_type,
         contents.second,
         start,
         run,
-    );
-    plain::written(answer)
+    ))
 }

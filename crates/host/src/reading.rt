@@ -3,7 +3,8 @@ ghost use Rattle.std.specs.Prelude.{◌≡◌};
 ghost use Rattle.host.specs.Reading.{fresh_for, step_for, block_for};
 
 use crate::unnamed::after_reader;
-use plain::{BlockAnswer, PlainReader, StepAnswer, code_alone, is_no_ways, reader_given};
+use plain::{BlockAnswer, PlainReader, StepAnswer, code_alone, is_no_ways};
+use register::Reader;
 
 #[unsafe(no_mangle)]
 pub extern "C" fn shx_fresh(mode: u8, ways: u8) -> PlainReader
@@ -22,7 +23,7 @@ pub extern "C" fn shx_fresh(mode: u8, ways: u8) -> PlainReader
 pub extern "C" fn shx_step(reader: PlainReader, element: u8) -> StepAnswer
     ensures { result ≡ step_for reader element }
 {
-    let given = reader_given(reader);
+    let given = Reader::from(reader);
     if is_no_ways(reader.ways) {
         let code = u8::from(after_reader(given));
         return StepAnswer {
@@ -30,15 +31,14 @@ pub extern "C" fn shx_step(reader: PlainReader, element: u8) -> StepAnswer
             reader,
         };
     }
-    let answer = reader::step(given, element);
-    plain::stepped(answer)
+    reader::step(given, element).into()
 }
 
 #[unsafe(no_mangle)]
 pub extern "C" fn shx_block(reader: PlainReader, limit: usize, run: &[u8]) -> BlockAnswer
     ensures { result ≡ block_for reader limit run.now }
 {
-    let given = reader_given(reader);
+    let given = Reader::from(reader);
     if is_no_ways(reader.ways) {
         let code = u8::from(after_reader(given));
         return BlockAnswer {
@@ -47,6 +47,5 @@ pub extern "C" fn shx_block(reader: PlainReader, limit: usize, run: &[u8]) -> Bl
             taken: 0,
         };
     }
-    let answer = reader::block(given, limit, run);
-    plain::blocked(answer)
+    reader::block(given, limit, run).into()
 }

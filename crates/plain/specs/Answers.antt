@@ -2,7 +2,6 @@
 -- where a reader answers nothing.
 -- Assumes nothing.
 use Rattle.refusals.specs.Table.{number}
-use Rattle.polarity.specs.Word.{reading}
 use Rattle.clock.specs.declared.types.DayFrame.{DayFrame}
 use Rattle.refusals.specs.declared.types.Refusal.{Refusal}
 use Rattle.pictures.specs.declared.types.PictureInSecond.{PictureInSecond}

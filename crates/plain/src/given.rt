@@ -11,67 +11,76 @@ use rates::{Address, Flag, SecondFrame};
 use record::{Flags, Groups, Record};
 use register::{Reader, Ways};
 
+// No `From`: neither a byte nor a Flag is a type of this crate; nor is an Interface, a Found or a Ways, below.
 pub fn flag_given(byte: u8) -> Flag
     ensures { result ≡ flag_of byte }
 {
     layout::flag(byte as u64)
 }
 
-pub fn picture_given(p: PlainPicture) -> Picture
-    ensures { result ≡ picture_given p }
-{
-    Picture {
-        address: Address {
-            hours: p.hours,
-            minutes: p.minutes,
-            seconds: p.seconds,
-            frames: SecondFrame(p.frames),
-        },
-        place: p.place,
+impl From<PlainPicture> for Picture {
+    ghost from_gives = { λ p given. given ≡ picture_given p };
+
+    fn from(p: PlainPicture) -> Picture {
+        Picture {
+            address: Address {
+                hours: p.hours,
+                minutes: p.minutes,
+                seconds: p.seconds,
+                frames: SecondFrame(p.frames),
+            },
+            place: p.place,
+        }
     }
 }
 
-fn flags_given(r: PlainRecord) -> Flags
-    ensures { result ≡ flags_given r }
-{
-    Flags {
-        drop: flag_given(r.drop),
-        colour: flag_given(r.colour),
-        mark: flag_given(r.mark),
-        bgf0: flag_given(r.bgf0),
-        bgf1: flag_given(r.bgf1),
-        bgf2: flag_given(r.bgf2),
+impl From<PlainRecord> for Flags {
+    ghost from_gives = { λ r given. given ≡ flags_given r };
+
+    fn from(r: PlainRecord) -> Flags {
+        Flags {
+            drop: flag_given(r.drop),
+            colour: flag_given(r.colour),
+            mark: flag_given(r.mark),
+            bgf0: flag_given(r.bgf0),
+            bgf1: flag_given(r.bgf1),
+            bgf2: flag_given(r.bgf2),
+        }
     }
 }
 
-fn groups_given(r: PlainRecord) -> Groups
-    ensures { result ≡ groups_given r }
-{
-    Groups {
-        group1: r.group1,
-        group2: r.group2,
-        group3: r.group3,
-        group4: r.group4,
-        group5: r.group5,
-        group6: r.group6,
-        group7: r.group7,
-        group8: r.group8,
+impl From<PlainRecord> for Groups {
+    ghost from_gives = { λ r given. given ≡ groups_given r };
+
+    fn from(r: PlainRecord) -> Groups {
+        Groups {
+            group1: r.group1,
+            group2: r.group2,
+            group3: r.group3,
+            group4: r.group4,
+            group5: r.group5,
+            group6: r.group6,
+            group7: r.group7,
+            group8: r.group8,
+        }
     }
 }
 
-pub fn record_given(r: PlainRecord) -> Record
-    ensures { result ≡ record_given r }
-{
-    Record {
-        address: Address {
-            hours: r.hours,
-            minutes: r.minutes,
-            seconds: r.seconds,
-            frames: SecondFrame(r.frames),
-        },
-        flags: flags_given(r),
-        groups: groups_given(r),
-        place: r.place,
+impl From<PlainRecord> for Record {
+    ghost from_gives = { λ r given. given ≡ record_given r };
+
+    fn from(r: PlainRecord) -> Record {
+        Record {
+            address: Address {
+                hours: r.hours,
+                minutes: r.minutes,
+                seconds: r.seconds,
+                frames: SecondFrame(r.frames),
+            },
+            flags: Flags::from(r),
+            groups: Groups::from(r),
+            place: r.place,
+        }
     }
 }
 
@@ -82,6 +91,7 @@ pub fn has_flag_above_1(r: PlainRecord) -> bool
         | ((1 < r.colour) | ((1 < r.mark) | ((1 < r.bgf0) | ((1 < r.bgf1) | (1 < r.bgf2)))))
 }
 
+// Tests by themselves, and no `TryFrom`: a byte that stands for nothing is refused by 3 only where nothing before 3 applies, which a call knows.
 pub fn is_no_flag(flag: u8) -> bool
     ensures { result ≡ no_flag flag }
 {
@@ -134,14 +144,16 @@ fn ways_given(byte: u8) -> Ways
     Ways::Both
 }
 
-pub fn reader_given(reader: PlainReader) -> Reader
-    ensures { result ≡ reader_given reader }
-{
-    Reader {
-        mode: reader.mode,
-        ways: ways_given(reader.ways),
-        held: reader.held,
-        info: reader.info,
-        sync: reader.sync,
+impl From<PlainReader> for Reader {
+    ghost from_gives = { λ reader given. given ≡ reader_given reader };
+
+    fn from(reader: PlainReader) -> Reader {
+        Reader {
+            mode: reader.mode,
+            ways: ways_given(reader.ways),
+            held: reader.held,
+            info: reader.info,
+            sync: reader.sync,
+        }
     }
 }

@@ -11,12 +11,10 @@ mod given;
 mod shown;
 mod types;
 
-pub use answers::{
-    blocked, code_alone, distance, in_second, line, number, packet, picture, stepped, word, written,
-};
+pub use answers::{code_alone, written};
 pub use given::{
     flag_given, has_flag_above_1, interface_given, is_no_flag, is_no_interface, is_no_make,
-    is_no_ways, make_given, picture_given, reader_given, record_given,
+    is_no_ways, make_given,
 };
 pub use types::{
     BlockAnswer, DistanceAnswer, LineAnswer, NumberAnswer, PacketAnswer, PictureAnswer,

@@ -10,6 +10,7 @@ use rates::Flag;
 use record::Record;
 use register::{Reader, Ways};
 
+// No `From` for these four: neither a byte nor what it stands for is a type of this crate.
 fn flag_shown(flag: Flag) -> u8
     ensures { result ≡ flag_shown flag }
 {
@@ -46,63 +47,62 @@ fn ways_shown(ways: Ways) -> u8
     }
 }
 
-pub fn picture_shown(p: Picture) -> PlainPicture
-    ensures { result ≡ picture_shown p }
-{
-    let a = p.address;
-    PlainPicture {
-        hours: a.hours,
-        minutes: a.minutes,
-        seconds: a.seconds,
-        frames: a.frames.0,
-        place: p.place,
+impl From<Picture> for PlainPicture {
+    ghost from_gives = { λ p shown. shown ≡ picture_shown p };
+
+    fn from(p: Picture) -> PlainPicture {
+        let a = p.address;
+        PlainPicture {
+            hours: a.hours,
+            minutes: a.minutes,
+            seconds: a.seconds,
+            frames: a.frames.0,
+            place: p.place,
+        }
     }
 }
 
-pub fn record_shown(r: Record) -> PlainRecord
-    ensures { result ≡ record_shown r }
-{
-    let a = r.address;
-    let f = r.flags;
-    let g = r.groups;
-    let drop = f.drop;
-    let colour = f.colour;
-    let mark = f.mark;
-    let bgf0 = f.bgf0;
-    let bgf1 = f.bgf1;
-    let bgf2 = f.bgf2;
-    PlainRecord {
-        hours: a.hours,
-        minutes: a.minutes,
-        seconds: a.seconds,
-        frames: a.frames.0,
-        drop: flag_shown(drop),
-        colour: flag_shown(colour),
-        mark: flag_shown(mark),
-        bgf0: flag_shown(bgf0),
-        bgf1: flag_shown(bgf1),
-        bgf2: flag_shown(bgf2),
-        group1: g.group1,
-        group2: g.group2,
-        group3: g.group3,
-        group4: g.group4,
-        group5: g.group5,
-        group6: g.group6,
-        group7: g.group7,
-        group8: g.group8,
-        place: r.place,
+impl From<Record> for PlainRecord {
+    ghost from_gives = { λ r shown. shown ≡ record_shown r };
+
+    fn from(r: Record) -> PlainRecord {
+        let a = r.address;
+        let f = r.flags;
+        let g = r.groups;
+        PlainRecord {
+            hours: a.hours,
+            minutes: a.minutes,
+            seconds: a.seconds,
+            frames: a.frames.0,
+            drop: flag_shown(f.drop),
+            colour: flag_shown(f.colour),
+            mark: flag_shown(f.mark),
+            bgf0: flag_shown(f.bgf0),
+            bgf1: flag_shown(f.bgf1),
+            bgf2: flag_shown(f.bgf2),
+            group1: g.group1,
+            group2: g.group2,
+            group3: g.group3,
+            group4: g.group4,
+            group5: g.group5,
+            group6: g.group6,
+            group7: g.group7,
+            group8: g.group8,
+            place: r.place,
+        }
     }
 }
 
-pub fn reader_shown(reader: Reader) -> PlainReader
-    ensures { result ≡ reader_shown reader }
-{
-    let ways = reader.ways;
-    PlainReader {
-        info: reader.info,
-        sync: reader.sync,
-        mode: reader.mode,
-        ways: ways_shown(ways),
-        held: reader.held,
+impl From<Reader> for PlainReader {
+    ghost from_gives = { λ reader shown. shown ≡ reader_shown reader };
+
+    fn from(reader: Reader) -> PlainReader {
+        PlainReader {
+            info: reader.info,
+            sync: reader.sync,
+            mode: reader.mode,
+            ways: ways_shown(reader.ways),
+            held: reader.held,
+        }
     }
 }

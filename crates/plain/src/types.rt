@@ -1,8 +1,8 @@
-// What crosses to a host and back. A flag is a byte, 0 for no and 1 for yes.
+// What crosses to a host and back. A flag is a byte, 0 for no and 1 for yes. What stands beside the code on a refusal is the default, zeros.
 
 // An address, and its place among the pictures that share it.
 #[repr(C)]
-#[derive(Clone, Copy)]
+#[derive(Clone, Copy, Default)]
 pub struct PlainPicture {
     pub hours: u8,
     pub minutes: u8,
@@ -12,7 +12,7 @@ pub struct PlainPicture {
 }
 
 #[repr(C)]
-#[derive(Clone, Copy)]
+#[derive(Clone, Copy, Default)]
 pub struct PlainRecord {
     pub hours: u8,
     pub minutes: u8,
@@ -37,7 +37,7 @@ pub struct PlainRecord {
 
 // What a packet carries.
 #[repr(C)]
-#[derive(Clone, Copy)]
+#[derive(Clone, Copy, Default)]
 pub struct PlainContents {
     pub record: PlainRecord,
     pub payload_type: u8,
@@ -57,7 +57,7 @@ pub struct PlainReader {
 
 // What a reader answers: `found` is 0 for a corrected word, 1 for an uncorrected one; `way` is 0 for a word that runs forward, 1 for one that runs backward.
 #[repr(C)]
-#[derive(Clone, Copy)]
+#[derive(Clone, Copy, Default)]
 pub struct PlainHeard {
     pub code: u8,
     pub found: u8,
@@ -67,7 +67,7 @@ pub struct PlainHeard {
 
 // The number of a picture of the day.
 #[repr(C)]
-#[derive(Clone, Copy)]
+#[derive(Clone, Copy, Default)]
 pub struct NumberAnswer {
     pub code: u8,
     pub number: u32,
@@ -75,21 +75,21 @@ pub struct NumberAnswer {
 
 // The number of a picture within its second: another struct, so that the two are not mixed by accident.
 #[repr(C)]
-#[derive(Clone, Copy)]
+#[derive(Clone, Copy, Default)]
 pub struct SecondAnswer {
     pub code: u8,
     pub number: u16,
 }
 
 #[repr(C)]
-#[derive(Clone, Copy)]
+#[derive(Clone, Copy, Default)]
 pub struct PictureAnswer {
     pub code: u8,
     pub picture: PlainPicture,
 }
 
 #[repr(C)]
-#[derive(Clone, Copy)]
+#[derive(Clone, Copy, Default)]
 pub struct DistanceAnswer {
     pub code: u8,
     pub pictures: i32,
@@ -97,7 +97,7 @@ pub struct DistanceAnswer {
 
 // What a linear word holds, and what was found.
 #[repr(C)]
-#[derive(Clone, Copy)]
+#[derive(Clone, Copy, Default)]
 pub struct WordAnswer {
     pub code: u8,
     pub found: u8,
@@ -106,14 +106,14 @@ pub struct WordAnswer {
 
 // What a vertical interval line holds.
 #[repr(C)]
-#[derive(Clone, Copy)]
+#[derive(Clone, Copy, Default)]
 pub struct LineAnswer {
     pub code: u8,
     pub record: PlainRecord,
 }
 
 #[repr(C)]
-#[derive(Clone, Copy)]
+#[derive(Clone, Copy, Default)]
 pub struct PacketAnswer {
     pub code: u8,
     pub contents: PlainContents,

@@ -47,4 +47,4 @@ pub returns-then-no_flag-no_interface : goal.returns-then-no_flag-no_interface
 returns-then-no_flag-no_interface c = turned _ _ _ _ _ _ _ c.has_flag_above_1-no_flag.ensures c.is_no_interface-no_interface.ensures (search rules) _ _ _ c.is_uncounted.ensures c.after_mode.ensures c.written.ensures
 
 pub returns : goal.returns
-returns c = wrote _ _ _ _ _ _ _ c.has_flag_above_1-no_flag.ensures c.is_no_interface-no_interface.ensures (search rules) _ _ _ _ _ c.interface_given-named.ensures c.record_given.ensures c.write-answer.ensures c.written-2.ensures
+returns c = wrote _ _ _ _ _ _ _ c.has_flag_above_1-no_flag.ensures c.is_no_interface-no_interface.ensures (search rules) _ _ _ _ _ c.interface_given.ensures c.into.ensures c.write.ensures c.written-2.ensures

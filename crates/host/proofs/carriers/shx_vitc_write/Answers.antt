@@ -46,4 +46,4 @@ pub returns-then-no_flag : goal.returns-then-no_flag
 returns-then-no_flag c = turned _ _ _ _ _ c.has_flag_above_1-no_flag.ensures (search rules) _ _ _ c.is_unknown.ensures c.after_mode.ensures c.written.ensures
 
 pub returns : goal.returns
-returns c = wrote _ _ _ _ _ c.has_flag_above_1-no_flag.ensures (search rules) _ _ _ _ c.record_given.ensures c.write-answer.ensures c.written-2.ensures
+returns c = wrote _ _ _ _ _ c.has_flag_above_1-no_flag.ensures (search rules) _ _ _ _ c.into.ensures c.write.ensures c.written-2.ensures

@@ -15,7 +15,7 @@ use Rattle.plain.specs.declared.types.PlainReader.{PlainReader}
 use Rattle.plain.specs.declared.types.PlainHeard.{PlainHeard}
 use Rattle.plain.specs.declared.types.BlockAnswer.{BlockAnswer}
 use Rattle.plain.specs.Given.{reader_given, no_ways}
-use Rattle.plain.specs.Answers.{heard_shown, block_with, block_answer, heard_with, no_record}
+use Rattle.plain.specs.Answers.{block_with, block_answer, heard_with, no_record}
 use Rattle.host.specs.Unnamed.{after_reader}
 use Rattle.host.specs.Reading.{block_for}
 use Rattle.host.proofs.Fed.{turned_away, answered}

@@ -17,7 +17,7 @@ use Rattle.plain.specs.declared.types.PlainReader.{PlainReader}
 use Rattle.plain.specs.declared.types.PlainHeard.{PlainHeard}
 use Rattle.plain.specs.declared.types.StepAnswer.{StepAnswer}
 use Rattle.plain.specs.Given.{reader_given, no_ways}
-use Rattle.plain.specs.Answers.{heard_shown, step_with, step_answer, heard_with, no_record}
+use Rattle.plain.specs.Answers.{step_with, step_answer, heard_with, no_record}
 use Rattle.host.specs.Unnamed.{after_reader}
 use Rattle.host.specs.Reading.{step_for}
 use Rattle.host.proofs.Fed.{turned_away, answered}
