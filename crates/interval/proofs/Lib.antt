@@ -8,6 +8,8 @@ pub mod Stride
 pub mod Pass
 pub mod Shape
 pub mod Turns
+-- Pairs     the pairs of the groups of ten that were yielded
+pub mod Pairs
 -- Gathers   the number of bits at given places, gathered from the last one on
 pub mod Gathers
 -- Unstopped a pass that goes on whatever it finds

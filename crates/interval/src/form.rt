@@ -23,11 +23,8 @@ fn has_wrong_pair(line: &[u8]) -> bool
     ensures { result ≡ wrong_pair line.now }
 {
     let mut wrong = false;
-    for g in 0..9 {
-        let first = line[10 * g];
-        let second = line[10 * g + 1];
-        let here = (first != 1) | (second != 0);
-        wrong |= here;
+    for group in line.chunks(10) {
+        wrong |= !group.starts_with(&[1, 0]);
     }
     wrong
 }
