@@ -10,3 +10,5 @@ pub mod First
 pub mod Results
 -- Verdicts  a call that takes its refusal from a verdict answers as its own list says
 pub mod Verdicts
+-- Printed   the numbers as they are printed, in the order of the table
+pub mod Printed
