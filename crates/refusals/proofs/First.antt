@@ -1,16 +1,17 @@
 -- "The lowest that applies is given, except that 13 comes straight after 2" (and 19 straight after 7): of a list that follows an order, the first number of the
 -- order that applies is given.
 -- Assumes nothing.
-use mathlib.Core.Path.{◌≡◌, refl, sym, ◌∙◌}
+use Prim.Native.Nat.{ℕ}
+use mathlib.Core.Path.{subst, ap, ◌≡◌, refl, sym, ◌∙◌}
 use mathlib.Core.Bool.{Bool, true, false, ◌||◌, cond, true≢false}
 use mathlib.Core.List.{List, [], ◌∷◌}
-use mathlib.Core.Logic.{◌↔◌}
-use Rattle.std.specs.Prelude.{Ok, Err}
+use mathlib.Core.Logic.{◌↔◌, ⊎_elim}
+use Rattle.std.specs.Prelude.{Result, Ok, Err}
 use Rattle.refusals.specs.declared.types.Refusal.{Refusal}
-use Rattle.refusals.specs.Table.{same_refusal, the_order}
+use Rattle.refusals.specs.Table.{number, same_refusal, the_order}
 use Rattle.refusals.specs.Answer.{Cause, answer, test_of, first_of, in_order}
-use Rattle.refusals.proofs.Answered.{Clear, neither}
-use Rattle.refusals.proofs.Same.{same-true, same-false, eq-same, ne-same}
+use Rattle.refusals.proofs.Answered.{Clear, neither, otherwise_accepted, clear_or_refused}
+use Rattle.refusals.proofs.Same.{number_of_one, some_number, same-true, same-false, eq-same, ne-same}
 use Rattle.refusals.proofs.ByNumber.{rows_before, given_at, given_before}
 
 -- a number stands in a list
@@ -103,3 +104,28 @@ given_exactly accepted r rows follows = (
   λ e. (given_before accepted r rows e, found_applies accepted the_order r rows (sym (first_of_the_order Err (Ok accepted) rows follows) ∙ e)),
   λ both. given_at Err (Ok accepted) r rows both.0 both.1,
 )
+
+-- And so in whatever kind of answer that tells a refusal's number and 0 where nothing is refused.
+pub given_exactly_as :
+    {A : Type 0} (refused : Refusal → A) (accepted : A) (number_in : A → ℕ) → ((k : Refusal) → number_in (refused k) ≡ number k) → number_in accepted ≡ 0
+    → (r : Refusal) (rows : List Cause) → in_order the_order rows ≡ true
+    → (answer refused rows accepted ≡ refused r) ↔ (Clear (rows_before r rows) × (test_of r rows ≡ true))
+given_exactly_as {A} refused accepted number_in tells nothing r rows follows = (there, λ both. given_at refused accepted r rows both.0 both.1)
+  where
+    -- a refusal that is told by its number is the one
+    same : (k : Refusal) → answer refused rows accepted ≡ refused k → answer refused rows accepted ≡ refused r → k ≡ r
+    same k given e = number_of_one k r (sym (tells k) ∙ ap number_in (sym given ∙ e) ∙ tells r)
+
+    there : answer refused rows accepted ≡ refused r → Clear (rows_before r rows) × (test_of r rows ≡ true)
+    there e = ⊎_elim by_none by_one (clear_or_refused {A = Result Unit Refusal} Err (Ok tt) rows)
+      where
+        by_none : Clear rows → Clear (rows_before r rows) × (test_of r rows ≡ true)
+        by_none clear =
+            let zero : 0 ≡ number r = sym nothing ∙ ap number_in (sym (otherwise_accepted refused accepted rows clear) ∙ e) ∙ tells r in
+            absurd (some_number r (sym zero))
+
+        by_one : (k : Refusal) × (answer {A = Result Unit Refusal} Err rows (Ok tt) ≡ Err k) → Clear (rows_before r rows) × (test_of r rows ≡ true)
+        by_one given =
+            let exactly = (given_exactly tt given.0 rows follows).0 given.1 in
+            let is = same given.0 (given_at refused accepted given.0 rows exactly.0 exactly.1) e in
+            subst (λ (k : Refusal). Clear (rows_before k rows) × (test_of k rows ≡ true)) is exactly

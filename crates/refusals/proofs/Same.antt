@@ -4,6 +4,7 @@ use Prim.Native.Nat.{ℕ}
 use mathlib.Core.Path.{◌≡◌, refl, sym, ap, ◌∙◌}
 use mathlib.Core.Bool.{true, false, cond}
 use mathlib.Core.List.{List, [], ◌∷◌}
+use native.Mathlib.Omega.{arith}
 use lib.Dec.{eqb}
 use borrow.Author.Tests.{eqb-true, eqb-false, eq-eqb, ne_eqb}
 use Rattle.refusals.specs.declared.types.Refusal.{Refusal}
@@ -49,3 +50,22 @@ eq-same one other e = eq-eqb (number one) (number other) (ap number e)
 
 pub ne-same : (one other : Refusal) → (one ≡ other → ⊥) → same_refusal one other ≡ false
 ne-same one other apart = ne_eqb (number one) (number other) (λ e. apart (number_of_one one other e))
+
+-- no refusal has the number 0
+pub some_number : (r : Refusal) → number r ≡ 0 → ⊥
+some_number WrongLength e = absurd (omega arith)
+some_number UnknownMode e = absurd (omega arith)
+some_number ElementTooHigh e = absurd (omega arith)
+some_number WrongSync e = absurd (omega arith)
+some_number WrongCheck e = absurd (omega arith)
+some_number LowBitsSet e = absurd (omega arith)
+some_number UnknownType e = absurd (omega arith)
+some_number OutsideTheClock e = absurd (omega arith)
+some_number SkippedAddress e = absurd (omega arith)
+some_number UnusedBitSet e = absurd (omega arith)
+some_number MarkSet e = absurd (omega arith)
+some_number NoRoom e = absurd (omega arith)
+some_number StateNotReached e = absurd (omega arith)
+some_number NumberPastTheDay e = absurd (omega arith)
+some_number ImpossibleLine e = absurd (omega arith)
+some_number MisnamedMode e = absurd (omega arith)
