@@ -10,7 +10,7 @@ pub mod Shape
 pub mod Turns
 -- Pairs     the pairs of the groups of ten that were yielded
 pub mod Pairs
--- Gathers   the number of bits at given places, gathered from the last one on
+-- Gathers   a run of bits gathered from the last one on
 pub mod Gathers
 -- Unstopped a pass that goes on whatever it finds
 pub mod Unstopped

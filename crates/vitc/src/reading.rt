@@ -8,15 +8,17 @@ use modes::Shows;
 use record::Record;
 use refusals::Refusal;
 
-// The 64 information bits, each from its place.
+// The 64 information bits: eight behind the pair of each group of ten, the last group's first.
 fn information(line: &[u8]) -> u64
     requires { BitRun 90 line.now }
     ensures { result ≡ info_in line.now }
 {
     let mut number: u64 = 0;
-    for n in (0..64).rev() {
-        let bit = line[n + 2 + 2 * (n / 8)];
-        number = 2 * number + bit as u64;
+    for group in line[..80].rchunks(10) {
+        let Ok(byte) = runs::gather(&group[2..]) else {
+            unreachable!()
+        };
+        number = 256 * number + byte;
     }
     number
 }

@@ -1,6 +1,5 @@
 -- `vitc::writing::write` meets its contract: the record refuses as its own rows do, by 11 where its mark does not say its picture, and the rest is the line's own answer.
 -- Assumes nothing.
-use borrow.Author.Rules.{rules}
 use Rattle.refusals.proofs.Results.{passed_on}
 use Rattle.vitc.proofs.WriteTests.{no_record, placed}
 use Rattle.vitc.proofs.writing.write.Goals as goal
