@@ -10,6 +10,7 @@ use plain::{
 };
 use refusals::Refusal;
 
+#[tactic(auto, unfolding(crate::specs::Carriers::ltc_read))]
 #[unsafe(no_mangle)]
 pub extern "C" fn shx_ltc_read(mode: u8, word: &[u8]) -> WordAnswer
     ensures { result ≡ ltc_read mode word.now }
@@ -35,6 +36,7 @@ pub extern "C" fn shx_ltc_write(
     plain::written(ltc::write(mode, r.into(), make_given(make), start, run))
 }
 
+#[tactic(auto, unfolding(crate::specs::Carriers::vitc_read))]
 #[unsafe(no_mangle)]
 pub extern "C" fn shx_vitc_read(mode: u8, line: &[u8]) -> LineAnswer
     ensures { result ≡ vitc_read mode line.now }

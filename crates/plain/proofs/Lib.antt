@@ -1,5 +1,3 @@
--- the record of zeros
-pub mod Zeros
 -- what is shown to a host and handed back is what it was
 pub mod Back
 -- the numbers as the header has them

@@ -102,6 +102,7 @@ pub fn written(answer: Result<(), Refusal>) -> u8
 impl From<Result<Word, Refusal>> for WordAnswer {
     ghost from_gives = { λ answer shown. shown ≡ word_answer answer };
 
+    #[tactic(auto, unfolding(crate::specs::Answers::no_record))]
     fn from(answer: Result<Word, Refusal>) -> WordAnswer {
         match answer {
             Ok(says) => WordAnswer {
@@ -120,6 +121,7 @@ impl From<Result<Word, Refusal>> for WordAnswer {
 impl From<Result<Record, Refusal>> for LineAnswer {
     ghost from_gives = { λ answer shown. shown ≡ line_answer answer };
 
+    #[tactic(auto, unfolding(crate::specs::Answers::no_record))]
     fn from(answer: Result<Record, Refusal>) -> LineAnswer {
         match answer {
             Ok(held) => LineAnswer {
@@ -137,6 +139,7 @@ impl From<Result<Record, Refusal>> for LineAnswer {
 impl From<Result<Contents, Refusal>> for PacketAnswer {
     ghost from_gives = { λ answer shown. shown ≡ packet_answer answer };
 
+    #[tactic(auto, unfolding(crate::specs::Answers::no_record))]
     fn from(answer: Result<Contents, Refusal>) -> PacketAnswer {
         match answer {
             Ok(contents) => PacketAnswer {
@@ -156,6 +159,7 @@ impl From<Result<Contents, Refusal>> for PacketAnswer {
 }
 
 // No `From<u8>`: not every byte is a code.
+#[tactic(auto, unfolding(crate::specs::Answers::no_record))]
 pub fn code_alone(code: u8) -> PlainHeard
     ensures { result ≡ heard_with code 0 0 no_record }
 {

@@ -37,6 +37,7 @@ impl From<PlainPicture> for Picture {
 impl From<PlainRecord> for Flags {
     ghost from_gives = { λ r given. given ≡ flags_given r };
 
+    #[tactic(auto, unfolding(crate::specs::Given::flags_given))]
     fn from(r: PlainRecord) -> Flags {
         Flags {
             drop: flag_given(r.drop),
@@ -52,6 +53,7 @@ impl From<PlainRecord> for Flags {
 impl From<PlainRecord> for Groups {
     ghost from_gives = { λ r given. given ≡ groups_given r };
 
+    #[tactic(auto, unfolding(crate::specs::Given::groups_given))]
     fn from(r: PlainRecord) -> Groups {
         Groups {
             group1: r.group1,
@@ -69,6 +71,7 @@ impl From<PlainRecord> for Groups {
 impl From<PlainRecord> for Record {
     ghost from_gives = { λ r given. given ≡ record_given r };
 
+    #[tactic(auto, unfolding(crate::specs::Given::record_given))]
     fn from(r: PlainRecord) -> Record {
         Record {
             address: Address {
@@ -84,6 +87,7 @@ impl From<PlainRecord> for Record {
     }
 }
 
+#[tactic(auto, unfolding(crate::specs::Given::flag_above_1))]
 pub fn has_flag_above_1(r: PlainRecord) -> bool
     ensures { result ≡ flag_above_1 r }
 {

@@ -65,6 +65,7 @@ impl From<Picture> for PlainPicture {
 impl From<Record> for PlainRecord {
     ghost from_gives = { λ r shown. shown ≡ record_shown r };
 
+    #[tactic(auto, unfolding(crate::specs::Shown::record_shown))]
     fn from(r: Record) -> PlainRecord {
         let a = r.address;
         let f = r.flags;
