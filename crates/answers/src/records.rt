@@ -2,7 +2,6 @@
 ghost use Rattle.answers.specs.Places.{Extended};
 
 use crate::text::Answer;
-use layout::bit;
 use pictures::Picture;
 use polarity::Found;
 use record::Record;
@@ -20,12 +19,12 @@ fn fields_of(record: Record) -> [u8; 19] {
         address.minutes,
         address.seconds,
         address.frames.0,
-        bit(flags.drop) as u8,
-        bit(flags.colour) as u8,
-        bit(flags.mark) as u8,
-        bit(flags.bgf0) as u8,
-        bit(flags.bgf1) as u8,
-        bit(flags.bgf2) as u8,
+        u8::from(flags.drop),
+        u8::from(flags.colour),
+        u8::from(flags.mark),
+        u8::from(flags.bgf0),
+        u8::from(flags.bgf1),
+        u8::from(flags.bgf2),
         groups.group1,
         groups.group2,
         groups.group3,
@@ -36,14 +35,6 @@ fn fields_of(record: Record) -> [u8; 19] {
         groups.group8,
         place,
     ]
-}
-
-// "FOUND is 0 where a linear word was found corrected, 1 where uncorrected". No `From`: the type is another crate's.
-fn found_number(found: Found) -> u8 {
-    match found {
-        Found::Corrected => 0,
-        Found::Uncorrected => 1,
-    }
 }
 
 impl<'a> Answer<'a> {
@@ -88,6 +79,6 @@ impl<'a> Answer<'a> {
         ensures { Extended self.old self.new }
     {
         self.put_record(record);
-        self.put_byte(found_number(found));
+        self.put_byte(u8::from(found));
     }
 }

@@ -17,10 +17,7 @@ pub fn flag(bit: u64) -> Flag
 pub fn bit(flag: Flag) -> u64
     ensures { (result ≡ bit_of flag) × (result ≤ 1) }
 {
-    match flag {
-        Flag::No => 0,
-        Flag::Yes => 1,
-    }
+    u64::from(u8::from(flag))
 }
 
 // One flag at 25 frames, another else: 25 has its own row in the table of flags.

@@ -2,34 +2,31 @@
 -- Assumes nothing.
 use Rattle.std.specs.Prelude.{ℕ}
 use Rattle.rates.specs.declared.types.Flag.{Flag}
-use Rattle.layout.specs.Flags.{bit_of}
+use Rattle.rates.specs.Rates.{flag_number}
 use Rattle.pictures.specs.declared.types.Picture.{Picture}
 use Rattle.record.specs.declared.types.Record.{Record}
 use Rattle.polarity.specs.declared.types.Found.{Found}
-use Rattle.polarity.specs.declared.types.Found.TheVariants.{Corrected, Uncorrected}
+use Rattle.polarity.specs.Numbers.{found_number}
 use Rattle.hearing.specs.declared.types.Way.{Way}
-use Rattle.hearing.specs.declared.types.Way.TheVariants.{Forward, Backward}
+use Rattle.hearing.specs.Numbers.{way_number}
 use Rattle.register.specs.declared.types.Ways.{Ways}
-use Rattle.register.specs.declared.types.Ways.TheVariants.{ForwardOnly, Both}
+use Rattle.register.specs.Numbers.{ways_number}
 use Rattle.register.specs.declared.types.Reader.{Reader}
 use Rattle.plain.specs.declared.types.PlainPicture.{PlainPicture}
 use Rattle.plain.specs.declared.types.PlainRecord.{PlainRecord}
 use Rattle.plain.specs.declared.types.PlainReader.{PlainReader}
 
 abbrev pub flag_shown : Flag → ℕ
-flag_shown flag = bit_of flag
+flag_shown = flag_number
 
 abbrev pub found_shown : Found → ℕ
-found_shown Corrected = 0
-found_shown Uncorrected = 1
+found_shown = found_number
 
 abbrev pub way_shown : Way → ℕ
-way_shown Forward = 0
-way_shown Backward = 1
+way_shown = way_number
 
 abbrev pub ways_shown : Ways → ℕ
-ways_shown ForwardOnly = 0
-ways_shown Both = 1
+ways_shown = ways_number
 
 abbrev pub picture_shown : Picture → PlainPicture
 picture_shown p =

@@ -2,7 +2,6 @@
 ghost use Rattle.std.specs.Prelude.{◌≡◌};
 ghost use Rattle.plain.specs.Answers.{number_answer, second_answer, picture_answer, distance_answer, written_code, no_record, word_answer, line_answer, packet_answer, heard_with, heard_shown, step_answer, block_answer};
 
-use crate::shown::{found_shown, way_shown};
 use crate::types::{
     BlockAnswer, DistanceAnswer, LineAnswer, NumberAnswer, PacketAnswer, PictureAnswer,
     PlainContents, PlainHeard, PlainPicture, PlainReader, PlainRecord, SecondAnswer, StepAnswer,
@@ -107,7 +106,7 @@ impl From<Result<Word, Refusal>> for WordAnswer {
         match answer {
             Ok(says) => WordAnswer {
                 code: ACCEPTED,
-                found: found_shown(says.found),
+                found: u8::from(says.found),
                 record: PlainRecord::from(says.record),
             },
             Err(refusal) => WordAnswer {
@@ -177,8 +176,8 @@ impl From<Heard> for PlainHeard {
             Heard::Nothing => code_alone(DONE),
             Heard::Accepted(report) => PlainHeard {
                 code: ACCEPTED,
-                found: found_shown(report.found),
-                way: way_shown(report.way),
+                found: u8::from(report.found),
+                way: u8::from(report.way),
                 record: PlainRecord::from(report.record),
             },
             Heard::Refused(refusal) => code_alone(u8::from(refusal)),

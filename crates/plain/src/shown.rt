@@ -1,51 +1,11 @@
 // From our types to a host's numbers.
 ghost use Rattle.std.specs.Prelude.{◌≡◌};
-ghost use Rattle.plain.specs.Shown.{flag_shown, found_shown, way_shown, ways_shown, picture_shown, record_shown, reader_shown};
+ghost use Rattle.plain.specs.Shown.{picture_shown, record_shown, reader_shown};
 
 use crate::types::{PlainPicture, PlainReader, PlainRecord};
-use hearing::Way;
 use pictures::Picture;
-use polarity::Found;
-use rates::Flag;
 use record::Record;
-use register::{Reader, Ways};
-
-// No `From` for these four: neither a byte nor what it stands for is a type of this crate.
-fn flag_shown(flag: Flag) -> u8
-    ensures { result ≡ flag_shown flag }
-{
-    match flag {
-        Flag::No => 0,
-        Flag::Yes => 1,
-    }
-}
-
-pub fn found_shown(found: Found) -> u8
-    ensures { result ≡ found_shown found }
-{
-    match found {
-        Found::Corrected => 0,
-        Found::Uncorrected => 1,
-    }
-}
-
-pub fn way_shown(way: Way) -> u8
-    ensures { result ≡ way_shown way }
-{
-    match way {
-        Way::Forward => 0,
-        Way::Backward => 1,
-    }
-}
-
-fn ways_shown(ways: Ways) -> u8
-    ensures { result ≡ ways_shown ways }
-{
-    match ways {
-        Ways::ForwardOnly => 0,
-        Ways::Both => 1,
-    }
-}
+use register::Reader;
 
 impl From<Picture> for PlainPicture {
     ghost from_gives = { λ p shown. shown ≡ picture_shown p };
@@ -75,12 +35,12 @@ impl From<Record> for PlainRecord {
             minutes: a.minutes,
             seconds: a.seconds,
             frames: a.frames.0,
-            drop: flag_shown(f.drop),
-            colour: flag_shown(f.colour),
-            mark: flag_shown(f.mark),
-            bgf0: flag_shown(f.bgf0),
-            bgf1: flag_shown(f.bgf1),
-            bgf2: flag_shown(f.bgf2),
+            drop: u8::from(f.drop),
+            colour: u8::from(f.colour),
+            mark: u8::from(f.mark),
+            bgf0: u8::from(f.bgf0),
+            bgf1: u8::from(f.bgf1),
+            bgf2: u8::from(f.bgf2),
             group1: g.group1,
             group2: g.group2,
             group3: g.group3,
@@ -102,7 +62,7 @@ impl From<Reader> for PlainReader {
             info: reader.info,
             sync: reader.sync,
             mode: reader.mode,
-            ways: ways_shown(reader.ways),
+            ways: u8::from(reader.ways),
             held: reader.held,
         }
     }

@@ -2,3 +2,5 @@
 -- Heard     what 64 information bits are heard as, once the sync word has been seen
 pub mod Word
 pub mod Heard
+-- Numbers   what was found as a number
+pub mod Numbers

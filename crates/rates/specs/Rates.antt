@@ -7,6 +7,11 @@ use Rattle.rates.specs.declared.types.Rate.{Rate}
 use Rattle.rates.specs.declared.types.Rate.TheVariants.{At24, At25, At30}
 
 -- "In a record, mark and flags are yes or no"
+-- the number of a flag, where numbers are given
+abbrev pub flag_number : Flag → ℕ
+flag_number No = 0
+flag_number Yes = 1
+
 abbrev pub is_yes : Flag → Bool
 is_yes No = false
 is_yes Yes = true

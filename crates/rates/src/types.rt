@@ -1,8 +1,19 @@
-// A yes or a no of a record or a call.
-#[derive(Clone, Copy)]
+ghost use Rattle.std.specs.Prelude.{◌≡◌};
+ghost use Rattle.rates.specs.Rates.{flag_number};
+
+// A yes or a no of a record or a call. An enum of its own, and no bool: flags were asked for in this form.
+#[derive(Clone, Copy, PartialEq, Eq)]
 pub enum Flag {
     No,
     Yes,
+}
+
+impl From<Flag> for u8 {
+    fn from(flag: Flag) -> u8
+        ensures { result ≡ flag_number flag }
+    {
+        flag as u8
+    }
 }
 
 // The rates of counting: 24, 25 and 30 frames in a second.

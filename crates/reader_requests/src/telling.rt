@@ -2,17 +2,9 @@
 ghost use Rattle.answers.specs.Places.{Extended};
 
 use answers::Answer;
-use hearing::{Heard, Way};
+use hearing::Heard;
 use reader::{Blocked, Stepped};
 use register::Reader;
-
-// WAY: 0 forward, 1 backward. No `From`: the type is another crate's.
-fn way_number(way: Way) -> u8 {
-    match way {
-        Way::Forward => 0,
-        Way::Backward => 1,
-    }
-}
 
 fn put_heard(answer: &mut Answer, heard: Heard)
     ensures { Extended answer.old answer.new }
@@ -21,7 +13,8 @@ fn put_heard(answer: &mut Answer, heard: Heard)
         Heard::Nothing => answer.put_text(b"nothing"),
         Heard::Accepted(report) => {
             answer.put_read(report.record, report.found);
-            answer.put_byte(way_number(report.way));
+            // WAY: 0 forward, 1 backward.
+            answer.put_byte(u8::from(report.way));
         }
         Heard::Refused(refusal) => answer.put_refused(u8::from(refusal)),
     }
