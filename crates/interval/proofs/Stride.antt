@@ -1,8 +1,8 @@
 -- The ones of a remainder by 8: places of other remainders do not count, and every eighth does.
 -- Assumes nothing.
-use Prim.Native.Nat.{ℕ, zero, suc, ◌+◌, ◌%◌, ◌<◌}
+use Prim.Native.Nat.{ℕ, zero, suc, ◌+◌, ◌%◌, ◌≤◌, ◌<◌}
 use mathlib.Core.Path.{◌≡◌, refl, sym}
-use mathlib.Core.Bool.{false, cond}
+use mathlib.Core.Bool.{Bool, true, false, cond}
 use mathlib.Core.List.{List, [], ◌∷◌, ◌++◌}
 use native.Mathlib.Omega.{arith}
 use native.Mathlib.Nat.{zero-add, add-zero}
@@ -14,6 +14,13 @@ use Rattle.interval.specs.Line.{ones_from}
 -- 1 for a one, and 0 for any other element
 abbrev pub one_in : ℕ → ℕ
 one_in element = cond (eqb element 1) 1 0
+
+pub one_small : (element : ℕ) → one_in element ≤ 1
+one_small element = go (eqb element 1)
+  where
+    go : (t : Bool) → cond t 1 0 ≤ 1
+    go true = omega arith
+    go false = omega arith
 
 module _ (remainder : ℕ) where
   -- the counts of two runs side by side

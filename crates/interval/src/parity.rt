@@ -16,6 +16,7 @@ fn add_ones(part: &[u8], odds: &mut [u8; 8])
     requires { (length odds.old ≡ 8) × AllBits odds.old }
     ensures { odds.new ≡ each 8 (λ remainder. (get_or odds.old remainder 0 + ones_at remainder part.now) % 2) }
 {
+    // By places, and not by a zip with the eight counts, which would end at the eighth element: the promise is for a part of any length.
     for (place, element) in part.iter().enumerate() {
         let one = one_in(*element);
         let remainder = place % 8;

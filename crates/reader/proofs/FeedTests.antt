@@ -5,7 +5,8 @@ use mathlib.Core.Bool.{Bool, true, false}
 use mathlib.Core.List.{List}
 use Prim.Native.Nat.{ℕ, ◌+◌, ◌^◌, ◌≤◌, ◌<◌, min}
 use native.Mathlib.Omega.{arith}
-use lib.ListN.{length, get_or}
+use lib.ListN.{length, get_or, take, length-take}
+use lib.Seq.{get_or-take}
 use Rattle.modes.specs.Modes.{unknown}
 use Rattle.register.specs.declared.types.Reader.{Reader}
 use Rattle.register.specs.Held.{held_bits, push, reader_with, unreached}
@@ -25,8 +26,14 @@ module _ (limit : ℕ) (run : List ℕ) (first : Reader) (end : ℕ) where
   begins low high known passes = feeding_begins limit run first end record { passing = record { known = known; passes = passes }; low = low; high = high }
 
   module _ (reader : Reader) (taken : ℕ) (f : Feeding limit run first end reader taken) where
-    pub within : taken < end → taken < length run
-    within more = omega (arith, f.ends)
+    pub reached : taken < length (take end run) → taken < end
+    reached more = omega (arith, length-take end run, more)
+
+    pub shown : taken < end → get_or (take end run) taken 0 ≡ get_or run taken 0
+    shown more = get_or-take end run taken 0 more
+
+    pub none_left : length (take end run) ≤ taken → end ≤ taken
+    none_left all = omega (arith, length-take end run, all, f.ends)
 
     pub sound : unreached reader ≡ false
     sound = f.sound.passing.passes

@@ -82,11 +82,7 @@ fn heard_apart(reader: Reader) -> Heard
 fn is_answer(answer: Heard) -> bool
     ensures { result ≡ is_answer answer }
 {
-    match answer {
-        Heard::Nothing => false,
-        Heard::Accepted(_) => true,
-        Heard::Refused(_) => true,
-    }
+    !matches!(answer, Heard::Nothing)
 }
 
 // The bits of a run up to an end, from a reader whose mode and state are sound.
@@ -96,16 +92,15 @@ fn feed(reader: Reader, limit: usize, run: &[u8]) -> Blocked
 {
     let mut now = reader;
     let end = limit.min(run.len());
-    for taken in 0..end {
-        let element = run[taken];
-        if 1 < element {
+    for (taken, element) in run[..end].iter().enumerate() {
+        if 1 < *element {
             return Blocked {
                 heard: Heard::Refused(Refusal::ElementTooHigh),
                 reader: now,
                 taken,
             };
         }
-        now = pushed(now, element);
+        now = pushed(now, *element);
         if is_synced(now) {
             let answer = heard_apart(now);
             if is_answer(answer) {
