@@ -3,7 +3,7 @@ ghost use Rattle.std.specs.Prelude.{◌≡◌};
 ghost use Rattle.host.specs.Unnamed.{after_mode, after_reader};
 
 use refusals::Refusal;
-use register::{Reader, is_unreached};
+use register::Reader;
 
 pub fn after_mode(unknown: bool) -> Refusal
     ensures { result ≡ after_mode unknown }
@@ -17,12 +17,6 @@ pub fn after_mode(unknown: bool) -> Refusal
 pub fn after_reader(reader: Reader) -> Refusal
     ensures { result ≡ after_reader reader }
 {
-    let unknown = modes::is_unknown(reader.mode);
-    if unknown {
-        return Refusal::UnknownMode;
-    }
-    if is_unreached(reader) {
-        return Refusal::StateNotReached;
-    }
-    Refusal::ElementTooHigh
+    let judged = reader::judge(reader);
+    judged.err().unwrap_or(Refusal::ElementTooHigh)
 }

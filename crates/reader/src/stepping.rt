@@ -3,7 +3,8 @@ ghost use Rattle.std.specs.Prelude.{◌≡◌, false, ◌<◌};
 ghost use Rattle.modes.specs.Modes.{unknown};
 ghost use Rattle.register.specs.Held.{held_bits, push, reader_with, unreached};
 ghost use Rattle.hearing.specs.Window.{heard_in};
-ghost use Rattle.reader.specs.Steps.{stepped_of};
+ghost use Rattle.refusals.specs.Answer.{verdict_of};
+ghost use Rattle.reader.specs.Steps.{reader_refusals, stepped_of};
 ghost use Rattle.reader.specs.Blocks.{is_answer, going, blocked_of};
 
 use crate::types::{Blocked, Stepped};
@@ -35,19 +36,25 @@ fn pushed(reader: Reader, bit: u8) -> Reader
     }
 }
 
+// 2, and 13 straight after it.
+pub fn judge(reader: Reader) -> Result<(), Refusal>
+    ensures { result ≡ verdict_of (reader_refusals reader) }
+{
+    if modes::is_unknown(reader.mode) {
+        return Err(Refusal::UnknownMode);
+    }
+    if is_unreached(reader) {
+        return Err(Refusal::StateNotReached);
+    }
+    Ok(())
+}
+
 pub fn step(reader: Reader, element: u8) -> Stepped
     ensures { result ≡ stepped_of reader element }
 {
-    let unknown = modes::is_unknown(reader.mode);
-    if unknown {
+    if let Err(refusal) = judge(reader) {
         return Stepped {
-            heard: Heard::Refused(Refusal::UnknownMode),
-            reader,
-        };
-    }
-    if is_unreached(reader) {
-        return Stepped {
-            heard: Heard::Refused(Refusal::StateNotReached),
+            heard: Heard::Refused(refusal),
             reader,
         };
     }
@@ -122,17 +129,9 @@ fn feed(reader: Reader, limit: usize, run: &[u8]) -> Blocked
 pub fn block(reader: Reader, limit: usize, run: &[u8]) -> Blocked
     ensures { result ≡ blocked_of reader limit run.now }
 {
-    let unknown = modes::is_unknown(reader.mode);
-    if unknown {
+    if let Err(refusal) = judge(reader) {
         return Blocked {
-            heard: Heard::Refused(Refusal::UnknownMode),
-            reader,
-            taken: 0,
-        };
-    }
-    if is_unreached(reader) {
-        return Blocked {
-            heard: Heard::Refused(Refusal::StateNotReached),
+            heard: Heard::Refused(refusal),
             reader,
             taken: 0,
         };

@@ -1,10 +1,7 @@
 -- A run of bits, block by block: the line of each block's answer after the lines before it.
 -- Assumes nothing.
-use Rattle.refusals.specs.declared.types.Refusal.{Refusal}
-use Rattle.std.specs.Prelude.{ℕ, ◌+◌, ◌%◌, ◌^◌, List, length, Err, Ok, Result}
+use Rattle.std.specs.Prelude.{ℕ, ◌+◌, ◌%◌, ◌^◌, List, length}
 use Rattle.register.specs.declared.types.Reader.{Reader}
-use Rattle.hearing.specs.declared.types.Heard.{Heard}
-use Rattle.hearing.specs.declared.types.Heard.TheVariants.{Nothing, Accepted, Refused}
 use Rattle.reader.specs.declared.types.Blocked.{Blocked}
 use Rattle.reader.specs.Blocks.{blocked_of}
 use Rattle.following.specs.Reach.{fed, answers}
@@ -42,9 +39,3 @@ run_told reader bits run =
       taken = length run;
       at = length (lines_of bits (answers reader run));
     }
-
--- what a reader that is asked for no bit says of its mode and state
-abbrev pub verdict_in : Heard → Result Unit Refusal
-verdict_in Nothing = (Ok tt)
-verdict_in (Accepted r) = (Ok tt)
-verdict_in (Refused n) = Err n

@@ -6,11 +6,10 @@ ghost use Rattle.runs.specs.Run.{placed};
 ghost use Rattle.text.specs.Gathered.{out_after};
 ghost use Rattle.characters.specs.Characters.{bits_in};
 ghost use Rattle.scribe.specs.Told.{fresh_scribe, counted, lines_of, text_of, left_after, telling_of, ToldOf};
-ghost use Rattle.scribe.specs.Blocks.{line_of_block, block_told, run_told, verdict_in};
+ghost use Rattle.scribe.specs.Blocks.{line_of_block, block_told, run_told};
 ghost use Rattle.scribe.specs.Loops.{Ready};
 
 use crate::types::{Block, Scribe, Telling};
-use hearing::Heard;
 use refusals::Refusal;
 use register::{Reader, Ways};
 
@@ -100,23 +99,11 @@ fn telling(before: Scribe, characters: &mut [u8], out: &mut [u8]) -> Telling
     }
 }
 
-// What a reader that is asked for no bit says of its mode and state.
-fn verdict(heard: Heard) -> Result<(), Refusal>
-    ensures { result ≡ verdict_in heard }
-{
-    match heard {
-        Heard::Nothing => Ok(()),
-        Heard::Accepted(_) => Ok(()),
-        Heard::Refused(refusal) => Err(refusal),
-    }
-}
-
 // What a piece of characters is told. A piece of none is the end of the input.
 pub fn tell(before: Scribe, characters: &mut [u8], out: &mut [u8]) -> Result<Telling, Refusal>
     ensures { ToldOf before characters.old out.old result characters.new out.new }
 {
-    let asked = reader::block(before.reader, 0, characters);
-    verdict(asked.heard)?;
+    reader::judge(before.reader)?;
     if out.len() / lines::ROOM < characters.len() {
         return Err(Refusal::NoRoom);
     }
