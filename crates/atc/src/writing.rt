@@ -19,9 +19,7 @@ pub fn write(
     ensures { (result ≡ written_of mode interface r payload_type second start run.old)
         × (run.new ≡ run_of mode interface r payload_type second start run.old) }
 {
-    if modes::is_uncounted(mode) {
-        return Err(Refusal::UnknownMode);
-    }
+    modes::counting_of(mode)?;
     payload::judge(mode, interface, payload_type, second)?;
     let info = payload::bits_of(mode, payload_type, r)?;
     packets::place(mode, info, payload_type, second, start, run)

@@ -45,9 +45,7 @@ pub fn judge(mode: u8, line: &[u8]) -> Result<(), Refusal>
     if line.len() != 90 {
         return Err(Refusal::WrongLength);
     }
-    if modes::is_unknown(mode) {
-        return Err(Refusal::UnknownMode);
-    }
+    modes::rate_of(mode)?;
     let high = has_high_element(line);
     let pair = has_wrong_pair(line);
     let crc = has_wrong_crc(line);

@@ -1,7 +1,7 @@
 -- What each test of a read leads to: the row of the list that applies, or what the information bits are heard as.
 -- Assumes nothing.
 use mathlib.Core.Path.{◌≡◌, ap, sym, ◌∙◌}
-use mathlib.Core.Bool.{Bool, true, false, or-true}
+use mathlib.Core.Bool.{true, false, or-true}
 use Prim.Native.Nat.{ℕ}
 use mathlib.Core.List.{List}
 use native.Mathlib.Omega.{arith}
@@ -9,7 +9,7 @@ use lib.ListN.{length, take, drop}
 use lib.Seq.{take_all}
 use borrow.Author.Tests.{eq-eqb, ne_eqb}
 use Rattle.std.specs.Prelude.{Err, Result}
-use Rattle.refusals.specs.declared.types.Refusal.TheVariants.{ElementTooHigh, UnknownMode, WrongLength, WrongSync}
+use Rattle.refusals.specs.declared.types.Refusal.TheVariants.{ElementTooHigh, WrongLength, WrongSync}
 use Rattle.polarity.specs.declared.types.Word.{Word}
 use Rattle.refusals.specs.declared.types.Refusal.{Refusal}
 use Rattle.bits.specs.Bits.{value, some_above}
@@ -18,7 +18,9 @@ use Rattle.runs.specs.declared.types.NoNumber.{NoNumber}
 use Rattle.runs.specs.Gather.{gathered_of}
 use Rattle.runs.specs.Run.{same}
 use Rattle.runs.proofs.Same.{same_itself, gathered_is, not_gathered}
-use Rattle.modes.specs.Modes.{unknown, rate_at}
+use Rattle.rates.specs.declared.types.Rate.{Rate}
+use Rattle.modes.specs.Modes.{unknown, rate_at, rated_of}
+use Rattle.modes.proofs.ByRate.{rate_told, rate_refused}
 use Rattle.polarity.specs.Word.{sync_word, odd_zeros, miscorrected}
 use Rattle.polarity.specs.Heard.{heard_of}
 use Rattle.ltc.specs.Calls.{read_of}
@@ -33,16 +35,16 @@ module _ (mode : ℕ) (word : List ℕ) where
   unfolding read_of
   wrong_size other = rw (ne_eqb (length word) 80 other)
 
-  module _ (long : length word ≡ 80) where
-    pub no_mode : (past : Bool) → past ≡ unknown mode → past ≡ true → Err UnknownMode ≡ read_of mode word
+  module _ (long : length word ≡ 80) (rated : Result Rate Refusal) (asked : rated ≡ rated_of mode) where
+    pub no_mode : (r : Refusal) → rated ≡ Err r → Err r ≡ read_of mode word
     unfolding read_of
-    no_mode past asked e = rw (eq-eqb (length word) 80 long, ← asked, e)
+    no_mode r e = let is = rate_refused mode rated asked r e in rw (eq-eqb (length word) 80 long, is.0, is.1)
 
     module _
-        (past : Bool) (asked : past ≡ unknown mode) (within : past ≡ false) (low high : Result ℕ NoNumber)
+        (rate : Rate) (within : rated ≡ Ok rate) (low high : Result ℕ NoNumber)
         (first : low ≡ gathered_of (take 64 word)) (last : high ≡ gathered_of (take 16 (drop 64 word))) where
       known : unknown mode ≡ false
-      known = sym asked ∙ within
+      known = (rate_told mode rated asked rate within).0
 
       high_part : take 16 (drop 64 word) ≡ drop 64 word
       high_part = take_all 16 (drop 64 word) (omega (arith, high_length word long))

@@ -11,10 +11,7 @@ pub fn read(mode: u8, word: &[u8]) -> Result<Word, Refusal>
     if word.len() != 80 {
         return Err(Refusal::WrongLength);
     }
-    let unknown = modes::is_unknown(mode);
-    if unknown {
-        return Err(Refusal::UnknownMode);
-    }
+    modes::rate_of(mode)?;
     let low = runs::gather(&word[0..64]);
     let high = runs::gather(&word[64..80]);
     let Ok(info) = low else {

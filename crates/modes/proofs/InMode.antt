@@ -3,16 +3,31 @@
 use Prim.Native.Nat.{ℕ, ◌+◌, ◌-◌}
 use mathlib.Core.Path.{◌≡◌, refl, sym, ap, ◌∙◌}
 use mathlib.Core.Bool.{Bool, true, false}
+use mathlib.Core.List.{[]}
 use native.Mathlib.Omega.{arith}
 use Rattle.std.specs.Prelude.{Err, Ok, Result}
 use Rattle.refusals.specs.declared.types.Refusal.{Refusal}
 use Rattle.refusals.specs.declared.types.Refusal.TheVariants.{UnknownMode}
-use Rattle.refusals.proofs.Results.{not_accepted}
+use Rattle.refusals.proofs.Results.{not_accepted, accepted_so}
 use Rattle.rates.specs.declared.types.Rate.{Rate}
 use Rattle.pictures.specs.declared.types.Counting.{Counting}
 use Rattle.pictures.specs.Pictures.{counting}
-use Rattle.modes.specs.Modes.{uncounted, rate_at, pictures_at, in_mode, counting_of}
+use Rattle.modes.specs.Modes.{uncounted, rate_at, pictures_at, with_counting, in_mode, counting_of}
 use Rattle.modes.proofs.EachMode.{some_picture}
+
+-- a row that was told is of a mode that is counted; in a mode that was refused nothing is
+module _ (mode : ℕ) (row : Result Counting Refusal) (asked : row ≡ counting_of mode) where
+  pub counted_told : (own : Counting) → row ≡ Ok own → uncounted mode ≡ false
+  unfolding counting_of
+  counted_told own e = (accepted_so (with_counting mode []) (sym asked ∙ e)).0.0
+
+  pub counted_refused : (r : Refusal) → row ≡ Err r → (uncounted mode ≡ true) × (r ≡ UnknownMode)
+  unfolding counting_of
+  counted_refused r e = go (uncounted mode) refl
+    where
+      go : (t : Bool) → uncounted mode ≡ t → (uncounted mode ≡ true) × (r ≡ UnknownMode)
+      go true t = let two : ◌≡◌ {A = Result Counting Refusal} (Err r) (Err UnknownMode) = sym e ∙ asked ∙ rw t in (t, cc)
+      go false t = let other : Err r ≡ Ok (counting (rate_at mode) (pictures_at mode - 1)) = sym e ∙ asked ∙ rw t in absurd (not_accepted r other)
 
 module _ {A : Type 0} (mode : ℕ) (call : Rate → ℕ → Result A Refusal) where
   -- in a mode that is known the answer is that of its row
@@ -31,13 +46,7 @@ module _ {A : Type 0} (mode : ℕ) (call : Rate → ℕ → Result A Refusal) wh
   -- the row that was told is the mode's own, and a mode that has none is refused as the call refuses it
   module _ (row : Result Counting Refusal) (asked : row ≡ counting_of mode) where
     pub no_row : (r : Refusal) → row ≡ Err r → Err r ≡ in_mode Err mode call
-    unfolding counting_of
-    no_row r e = go (uncounted mode) refl
-      where
-        go : (t : Bool) → uncounted mode ≡ t → Err r ≡ in_mode Err mode call
-        go true t = let given : ◌≡◌ {A = Result Counting Refusal} (Err r) (Err UnknownMode) = sym e ∙ asked ∙ rw t in let same : r ≡ UnknownMode = cc in rw (t, same)
-        go false t =
-            let given : Err r ≡ Ok (counting (rate_at mode) (pictures_at mode - 1)) = sym e ∙ asked ∙ rw t in absurd (not_accepted r given)
+    no_row r e = let is = counted_refused mode row asked r e in rw (is.0, is.1)
 
     pub by_its_row : (own : Counting) → row ≡ Ok own → (given : Result A Refusal) → given ≡ call own.rate (own.last + 1) → given ≡ in_mode Err mode call
     unfolding counting_of

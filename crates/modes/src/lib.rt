@@ -17,5 +17,5 @@ mod types;
 pub use counting::{add, distance, number_in_second, number_of, picture_from, picture_of};
 pub use packing::{from_bits, to_bits};
 pub use showing::{picture_from_bits, picture_to_bits};
-pub use table::{high_row_of, is_high_rate, is_uncounted, is_unknown, rate_of};
+pub use table::{counting_of, high_row_of, is_high_rate, is_uncounted, is_unknown, rate_of};
 pub use types::Shows;

@@ -32,9 +32,7 @@ pub fn judge(mode: u8, words: &[u16]) -> Result<(), Refusal>
     if words.len() != 23 {
         return Err(Refusal::WrongLength);
     }
-    if modes::is_uncounted(mode) {
-        return Err(Refusal::UnknownMode);
-    }
+    modes::counting_of(mode)?;
     if words::has_high_word(words) {
         return Err(Refusal::ElementTooHigh);
     }

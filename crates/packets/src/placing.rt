@@ -38,9 +38,7 @@ pub fn place(
     ensures { (result ≡ written_by (place_refusals mode start run.old))
         × (run.new ≡ run_after (place_refusals mode start run.old) start (packet_with mode info payload_type second) run.old) }
 {
-    if modes::is_uncounted(mode) {
-        return Err(Refusal::UnknownMode);
-    }
+    modes::counting_of(mode)?;
     if runs::lacks_room(23, start, run.len()) {
         return Err(Refusal::NoRoom);
     }
