@@ -129,3 +129,7 @@ given_exactly_as {A} refused accepted number_in tells nothing r rows follows = (
             let exactly = (given_exactly tt given.0 rows follows).0 given.1 in
             let is = same given.0 (given_at refused accepted given.0 rows exactly.0 exactly.1) e in
             subst (λ (k : Refusal). Clear (rows_before k rows) × (test_of k rows ≡ true)) is exactly
+
+-- A number that is given applies.
+pub given_applies : (r : Refusal) (rows : List Cause) → in_order the_order rows ≡ true → answer number rows 0 ≡ number r → test_of r rows ≡ true
+given_applies r rows follows e = ((given_exactly_as number 0 (λ n. n) (λ k. refl) refl r rows follows).0 e).1
