@@ -1,6 +1,6 @@
 -- Turns     the loops begin, go on and end
 pub mod Turns
--- Chains    what the library's `any` says of words
+-- Chains    what the library's `any` says of words, and what a few of them tell of all
 pub mod Chains
 -- Lists     how many data words there are, some of them, and how high a number can be that words hold together
 pub mod Lists

@@ -1,11 +1,9 @@
--- `words::sweeps::has_low_bits` meets its contract: `any` answers the test of the definition.
+-- `words::sweeps::has_low_bits` meets its contract: the closure answers the test of the definition.
 -- Assumes nothing.
 use Rattle.std.proofs.Common.{rules, tests, ◌∙◌}
-use Rattle.std.proofs.lemmas.Iterator.{YieldsList-from_slice}
-use Rattle.std.proofs.lemmas.Iterator.Search.{any_from_yields_List}
 use Rattle.words.specs.Words.{low_set}
 use Rattle.words.proofs.Chains.{any_word}
 use Rattle.words.proofs.sweeps.has_low_bits.Goals as goal
 
 pub returns : goal.returns
-returns c = any_from_yields_List low_set _ _ _ c.any.ensures.ran (YieldsList-from_slice c.args.words.now (cc)) (λ x b q k. search (rules, tests)) ∙ any_word low_set _
+returns c = c.has_word_that.ensures low_set (λ word met k. search (rules, tests)) ∙ any_word low_set _
