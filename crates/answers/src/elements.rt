@@ -10,7 +10,7 @@ fn hex_digit(value: u16) -> u8 {
 }
 
 impl<'a> Answer<'a> {
-    // BITS, one element a character.
+    // BITS, one element a character. The place is kept apart from the answer, as for a text.
     pub fn put_bits(&mut self, run: &[u8])
         ensures { Extended self.old self.new }
     {
@@ -18,21 +18,27 @@ impl<'a> Answer<'a> {
         if run.is_empty() {
             self.put(b'-');
         }
+        let mut next = self.length;
         for element in run {
-            self.put(b'0' + element % 10);
+            if next < self.room.len() {
+                self.room[next] = b'0' + element % 10;
+                next += 1;
+            }
         }
+        self.length = next;
     }
 
     // "at least three digits", and a fourth where the word needs it.
     fn put_word(&mut self, word: u16)
         ensures { Extended self.old self.new }
     {
-        if 0xfff < word {
-            self.put(hex_digit(word / 0x1000));
-        }
-        self.put(hex_digit(word / 0x100));
-        self.put(hex_digit(word / 0x10));
-        self.put(hex_digit(word));
+        let digits = [
+            hex_digit(word / 0x1000),
+            hex_digit(word / 0x100),
+            hex_digit(word / 0x10),
+            hex_digit(word),
+        ];
+        self.put_text(if 0xfff < word { &digits } else { &digits[1..] });
     }
 
     pub fn put_words(&mut self, run: &[u16])

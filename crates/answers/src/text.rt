@@ -28,11 +28,17 @@ impl<'a> Answer<'a> {
         }
     }
 
+    // The place is kept apart from the answer until all is put, so that it is not stored at each byte.
     pub fn put_text(&mut self, text: &[u8])
         ensures { Extended self.old self.new }
     {
+        let mut next = self.length;
         for byte in text {
-            self.put(*byte);
+            if next < self.room.len() {
+                self.room[next] = *byte;
+                next += 1;
+            }
         }
+        self.length = next;
     }
 }

@@ -39,20 +39,23 @@ fn answer_line(output: &mut Stdout, line: &Line) -> io::Result<()> {
     output.write_all(&out[..end])
 }
 
-fn take_byte(output: &mut Stdout, byte: u8, line: &mut Line) -> io::Result<()> {
-    if byte != b'\n' {
-        line.push(byte);
-        return Ok(());
-    }
+fn end_line(output: &mut Stdout, line: &mut Line) -> io::Result<()> {
     let written = answer_line(output, line);
     line.clear();
     written
 }
 
+// A line feed ends what came before it; what stands behind the last one is the beginning of a line.
 fn take_bytes(output: &mut Stdout, piece: &[u8], line: &mut Line) -> io::Result<()> {
-    piece
-        .iter()
-        .try_for_each(|byte| take_byte(output, *byte, line))
+    let mut parts = piece.split(|byte| *byte == b'\n');
+    if let Some(end) = parts.next() {
+        line.extend(end);
+    }
+    for beginning in parts {
+        end_line(output, line)?;
+        line.extend(beginning);
+    }
+    Ok(())
 }
 
 // Reads what is there, and answers the lines that end in it before it reads on: a read that brings less than a piece ends nothing. A
@@ -66,7 +69,7 @@ fn take_all(input: &mut Stdin, output: &mut Stdout, line: &mut Line) -> io::Resu
     for _ in 0..u64::MAX {
         let came = input.read(&mut piece).unwrap_or(0);
         if came == 0 {
-            return Ok(End::Input);
+            return Ok(End::Input(came));
         }
         take_bytes(output, &piece[..came], line)?;
         pieces += 1;

@@ -20,12 +20,14 @@ impl Line {
         self.came = 0;
     }
 
-    pub fn push(&mut self, byte: u8) {
-        if self.came < LONGEST_LINE {
-            self.kept[self.came] = byte;
-            self.came += 1;
-        } else {
-            self.came = LONGEST_LINE + 1;
+    pub fn extend(&mut self, part: &[u8]) {
+        let end = self.came.saturating_add(part.len());
+        match self.kept.get_mut(self.came..end) {
+            Some(places) => {
+                places.copy_from_slice(part);
+                self.came = end;
+            }
+            None => self.came = LONGEST_LINE + 1,
         }
     }
 
@@ -41,8 +43,8 @@ impl Line {
 // Why the reading ended, where the output took each answer.
 #[derive(Clone, Copy)]
 pub enum End {
-    // A read brought nothing.
-    Input,
+    // A read brought so many bytes: none.
+    Input(usize),
     // So many pieces were answered.
     Pieces(u64),
 }

@@ -3,7 +3,7 @@ ghost use Rattle.std.specs.Prelude.{◌≤◌, length, IfSome, IsNone};
 ghost use Rattle.requests.specs.Parsing.{rest_of};
 
 use crate::fields::Fields;
-use crate::numbers::{digit_of, number_in};
+use crate::numbers::number_in;
 
 // BITS, "one element a character": how many there are, unless the text is no BITS or has more than the run.
 pub fn bits_in(text: &[u8], run: &mut [u8]) -> Option<usize>
@@ -16,7 +16,10 @@ pub fn bits_in(text: &[u8], run: &mut [u8]) -> Option<usize>
         return None;
     }
     for (place, character) in run.get_mut(..text.len())?.iter_mut().zip(text) {
-        *place = digit_of(*character).filter(|digit| *digit < 10)?;
+        match *character {
+            b'0'..=b'9' => *place = *character - b'0',
+            _ => return None,
+        }
     }
     Some(text.len())
 }
