@@ -27,7 +27,7 @@ use Rattle.pictures.specs.Calls.{picture_refusals, two_refusals, number_refusals
 use Rattle.pictures.proofs.Moves as moves
 use Rattle.modes.specs.Modes.{uncounted, rate_at, pictures_at, with_counting}
 use Rattle.modes.specs.Calls.{number_in, picture_in, fields_in, span_in, plus_in}
-use Rattle.modes.proofs.InMode.{answered}
+use Rattle.modes.proofs.InMode.{accepted_in}
 use Rattle.modes.proofs.EachMode.{some_picture}
 use Rattle.modes.proofs.Counted.{picture_by_row, span_by_row, plus_by_row}
 use Rattle.modes.proofs.Rows as counts
@@ -111,7 +111,7 @@ module _ (mode : ℕ) (drop : Flag) where
         → plus_in mode drop p z ≡ picture_in mode drop (record { 0 = sum_of (pictures_in_day (rate_at mode) (pictures_at mode) (is_yes drop)) n.0 z })
     unfolding number_in
     sum_by_numbers n z e =
-        let at = answered mode (λ rate pictures. number_of rate pictures drop p) n e in
+        let at = accepted_in mode (λ rate pictures. number_of rate pictures drop p) n e in
         let sum : DayFrame = record { 0 = sum_of (pictures_in_day (rate_at mode) (pictures_at mode) (is_yes drop)) n.0 z } in
         plus_by_row mode drop p z at.0 ∙ moves.sum_is (rate_at mode) (pictures_at mode) drop (some_picture mode) p n z at.1 ∙ sym (picture_by_row mode drop sum at.0)
 
@@ -121,8 +121,8 @@ module _ (mode : ℕ) (drop : Flag) where
       → span_in mode drop from to ≡ Ok (distance_of (pictures_in_day (rate_at mode) (pictures_at mode) (is_yes drop)) m.0 n.0)
   unfolding number_in
   distance_by_numbers from to m n e f =
-      let first = answered mode (λ rate pictures. number_of rate pictures drop from) m e in
-      let second = answered mode (λ rate pictures. number_of rate pictures drop to) n f in
+      let first = accepted_in mode (λ rate pictures. number_of rate pictures drop from) m e in
+      let second = accepted_in mode (λ rate pictures. number_of rate pictures drop to) n f in
       span_by_row mode drop from to first.0 ∙ moves.distance_is (rate_at mode) (pictures_at mode) drop (some_picture mode) from to m n first.1 second.1
 
   -- and it is refused where one of the two is: by 8 where that applies to either, then by 9, then by 10

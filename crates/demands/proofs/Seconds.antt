@@ -16,7 +16,7 @@ use Rattle.pictures.specs.Calls.{picture_refusals, number_of, in_second_of}
 use Rattle.pictures.proofs.Seconds as any
 use Rattle.modes.specs.Modes.{rate_at, pictures_at, with_counting}
 use Rattle.modes.specs.Calls.{number_in, in_second_in}
-use Rattle.modes.proofs.InMode.{answered}
+use Rattle.modes.proofs.InMode.{accepted_in}
 use Rattle.modes.proofs.EachMode.{some_picture}
 
 -- Of `modes::number_in_second`, in every mode. It refuses what `modes::number_of` refuses, by the same number; the last picture of a second has the highest number, one less
@@ -25,11 +25,11 @@ use Rattle.modes.proofs.EachMode.{some_picture}
 module _ (mode : ℕ) (drop : Flag) where
   by_row_numbered : (p : Picture) (n : DayFrame) → number_in mode drop p ≡ Ok n → number_of (rate_at mode) (pictures_at mode) drop p ≡ Ok n
   unfolding number_in
-  by_row_numbered p n e = (answered mode (λ rate pictures. number_of rate pictures drop p) n e).1
+  by_row_numbered p n e = (accepted_in mode (λ rate pictures. number_of rate pictures drop p) n e).1
 
   by_row_counted : (p : Picture) (s : PictureInSecond) → in_second_in mode drop p ≡ Ok s → in_second_of (rate_at mode) (pictures_at mode) drop p ≡ Ok s
   unfolding in_second_in
-  by_row_counted p s e = (answered mode (λ rate pictures. in_second_of rate pictures drop p) s e).1
+  by_row_counted p s e = (accepted_in mode (λ rate pictures. in_second_of rate pictures drop p) s e).1
 
   pub both_refused_alike : (p : Picture) (k : Refusal) → (number_in mode drop p ≡ Err k) ↔ (in_second_in mode drop p ≡ Err k)
   unfolding number_in number_of in_second_in in_second_of

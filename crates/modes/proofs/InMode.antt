@@ -29,19 +29,26 @@ module _ (mode : ℕ) (row : Result Counting Refusal) (asked : row ≡ counting_
       go true t = let two : ◌≡◌ {A = Result Counting Refusal} (Err r) (Err UnknownMode) = sym e ∙ asked ∙ rw t in (t, cc)
       go false t = let other : Err r ≡ Ok (counting (rate_at mode) (pictures_at mode - 1)) = sym e ∙ asked ∙ rw t in absurd (not_accepted r other)
 
-module _ {A : Type 0} (mode : ℕ) (call : Rate → ℕ → Result A Refusal) where
+module _ {A : Type 0} (refused : Refusal → A) (mode : ℕ) (call : Rate → ℕ → A) where
   -- in a mode that is known the answer is that of its row
-  pub known_is : uncounted mode ≡ false → in_mode Err mode call ≡ call (rate_at mode) (pictures_at mode)
+  pub known_is : uncounted mode ≡ false → in_mode refused mode call ≡ call (rate_at mode) (pictures_at mode)
   known_is known = rw known
 
   -- and what is no refusal was answered in a mode that is known
   pub answered :
-      (given : A) → in_mode Err mode call ≡ Ok given → (uncounted mode ≡ false) × (call (rate_at mode) (pictures_at mode) ≡ Ok given)
-  answered given e = go (uncounted mode) refl
+      (given : A) → ((r : Refusal) → refused r ≡ given → ⊥) → in_mode refused mode call ≡ given
+      → (uncounted mode ≡ false) × (call (rate_at mode) (pictures_at mode) ≡ given)
+  answered given apart e = go (uncounted mode) refl
     where
-      go : (t : Bool) → uncounted mode ≡ t → (uncounted mode ≡ false) × (call (rate_at mode) (pictures_at mode) ≡ Ok given)
-      go true t = let refused : Err UnknownMode ≡ Ok given = rw t at e in absurd (not_accepted UnknownMode refused)
+      go : (t : Bool) → uncounted mode ≡ t → (uncounted mode ≡ false) × (call (rate_at mode) (pictures_at mode) ≡ given)
+      go true t = let turned_away : refused UnknownMode ≡ given = rw t at e in absurd (apart UnknownMode turned_away)
       go false t = (t, sym (known_is t) ∙ e)
+
+module _ {A : Type 0} (mode : ℕ) (call : Rate → ℕ → Result A Refusal) where
+  -- so what is accepted was answered in a mode that is known
+  pub accepted_in :
+      (given : A) → in_mode Err mode call ≡ Ok given → (uncounted mode ≡ false) × (call (rate_at mode) (pictures_at mode) ≡ Ok given)
+  accepted_in given e = answered Err mode call (Ok given) not_accepted e
 
   -- the row that was told is the mode's own, and a mode that has none is refused as the call refuses it
   module _ (row : Result Counting Refusal) (asked : row ≡ counting_of mode) where

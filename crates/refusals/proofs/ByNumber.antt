@@ -3,12 +3,13 @@
 use mathlib.Core.Path.{◌≡◌, refl, ◌∙◌, sym}
 use mathlib.Core.Bool.{Bool, true, false, cond, true≢false}
 use mathlib.Core.List.{List, [], ◌∷◌}
-use Rattle.std.specs.Prelude.{Ok, Err}
+use Prim.Native.Nat.{ℕ}
+use Rattle.std.specs.Prelude.{Result, Ok, Err}
 use Rattle.refusals.specs.declared.types.Refusal.{Refusal}
-use Rattle.refusals.specs.Table.{same_refusal}
+use Rattle.refusals.specs.Table.{number, same_refusal}
 use Rattle.refusals.specs.Answer.{Cause, answer, test_of}
 use Rattle.refusals.proofs.Answered.{Clear}
-use Rattle.refusals.proofs.Same.{same-true, same-false}
+use Rattle.refusals.proofs.Same.{number_of_one, same-true, same-false}
 
 -- the rows from a number on, and those before it
 abbrev pub rows_from : Refusal → List Cause → List Cause
@@ -88,15 +89,27 @@ given_at refused accepted n (row ∷ rows) before applies =
     go true same b this rest = rw (this, same-true row.refusal n same)
     go false other b later rest = rw b.0 (rest b.1 later)
 
--- and where a refusal is given, the rows before it are clear
-pub given_before : {A : Type 0} (accepted : A) (r : Refusal) (rows : List Cause) → answer Err rows (Ok accepted) ≡ Err r → Clear (rows_before r rows)
-given_before accepted r [] e = tt
-given_before accepted r (row ∷ rows) e = go (same_refusal row.refusal r) refl row.applies refl e (given_before accepted r rows)
+-- and where a refusal is given, in an answer that tells refusals apart, the rows before it are clear
+pub given_before :
+    {A : Type 0} (refused : Refusal → A) (accepted : A) → ((k m : Refusal) → refused k ≡ refused m → k ≡ m)
+    → (r : Refusal) (rows : List Cause) → answer refused rows accepted ≡ refused r → Clear (rows_before r rows)
+given_before refused accepted apart r [] e = tt
+given_before refused accepted apart r (row ∷ rows) e = go (same_refusal row.refusal r) refl row.applies refl e (given_before refused accepted apart r rows)
   where
     go :
         (t : Bool) → same_refusal row.refusal r ≡ t → (applies : Bool) → row.applies ≡ applies
-        → cond applies (Err row.refusal) (answer Err rows (Ok accepted)) ≡ Err r
-        → (answer Err rows (Ok accepted) ≡ Err r → Clear (rows_before r rows)) → Clear (cond t [] (row ∷ rows_before r rows))
+        → cond applies (refused row.refusal) (answer refused rows accepted) ≡ refused r
+        → (answer refused rows accepted ≡ refused r → Clear (rows_before r rows)) → Clear (cond t [] (row ∷ rows_before r rows))
     go true same applies this given rest = tt
-    go false other true this given rest = absurd (same-false row.refusal r other cc)
+    go false other true this given rest = absurd (same-false row.refusal r other (apart row.refusal r given))
     go false other false this given rest = (this, rest given)
+
+-- the same of a Result, and of the number alone
+err_apart : {A : Type 0} (k m : Refusal) → ◌≡◌ {A = Result A Refusal} (Err k) (Err m) → k ≡ m
+err_apart k m e = cc
+
+pub given_before_err : {A : Type 0} (accepted : A) (r : Refusal) (rows : List Cause) → answer Err rows (Ok accepted) ≡ Err r → Clear (rows_before r rows)
+given_before_err accepted r rows e = given_before Err (Ok accepted) err_apart r rows e
+
+pub given_before_number : (r : Refusal) (rows : List Cause) → answer number rows 0 ≡ number r → Clear (rows_before r rows)
+given_before_number r rows e = given_before number 0 number_of_one r rows e

@@ -12,7 +12,7 @@ use Rattle.refusals.specs.Table.{number, same_refusal, the_order}
 use Rattle.refusals.specs.Answer.{Cause, answer, test_of, first_of, in_order}
 use Rattle.refusals.proofs.Answered.{Clear, neither, otherwise_accepted, clear_or_refused}
 use Rattle.refusals.proofs.Same.{number_of_one, some_number, same-true, same-false, eq-same, ne-same}
-use Rattle.refusals.proofs.ByNumber.{rows_before, given_at, given_before}
+use Rattle.refusals.proofs.ByNumber.{rows_before, given_at, given_before_err}
 
 -- a number stands in a list
 abbrev pub among : Refusal → List Refusal → Bool
@@ -101,7 +101,7 @@ pub given_exactly :
     {A : Type 0} (accepted : A) (r : Refusal) (rows : List Cause) → in_order the_order rows ≡ true
     → (answer Err rows (Ok accepted) ≡ Err r) ↔ (Clear (rows_before r rows) × (test_of r rows ≡ true))
 given_exactly accepted r rows follows = (
-  λ e. (given_before accepted r rows e, found_applies accepted the_order r rows (sym (first_of_the_order Err (Ok accepted) rows follows) ∙ e)),
+  λ e. (given_before_err accepted r rows e, found_applies accepted the_order r rows (sym (first_of_the_order Err (Ok accepted) rows follows) ∙ e)),
   λ both. given_at Err (Ok accepted) r rows both.0 both.1,
 )
 
