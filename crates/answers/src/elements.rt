@@ -10,7 +10,7 @@ fn hex_digit(value: u16) -> u8 {
 }
 
 impl<'a> Answer<'a> {
-    // BITS, one element a character. The place is kept apart from the answer, as for a text.
+    // BITS, one element a character.
     pub fn put_bits(&mut self, run: &[u8])
         ensures { Extended self.old self.new }
     {
@@ -18,14 +18,7 @@ impl<'a> Answer<'a> {
         if run.is_empty() {
             self.put(b'-');
         }
-        let mut next = self.length;
-        for element in run {
-            if next < self.room.len() {
-                self.room[next] = b'0' + element % 10;
-                next += 1;
-            }
-        }
-        self.length = next;
+        self.put_each(run, |element| b'0' + element % 10);
     }
 
     // "at least three digits", and a fourth where the word needs it.

@@ -28,17 +28,25 @@ impl<'a> Answer<'a> {
         }
     }
 
-    // The place is kept apart from the answer until all is put, so that it is not stored at each byte.
-    pub fn put_text(&mut self, text: &[u8])
+    // Bytes one after the other, each as it is shown. The place is kept apart from the answer until all are put, so that it is not stored at
+    // each byte.
+    pub(crate) fn put_each<F: Fn(u8) -> u8>(&mut self, bytes: &[u8], shown: F)
+        requires { F.IsAlwaysCallable shown }
         ensures { Extended self.old self.new }
     {
         let mut next = self.length;
-        for byte in text {
+        for byte in bytes {
             if next < self.room.len() {
-                self.room[next] = *byte;
+                self.room[next] = shown(*byte);
                 next += 1;
             }
         }
         self.length = next;
+    }
+
+    pub fn put_text(&mut self, text: &[u8])
+        ensures { Extended self.old self.new }
+    {
+        self.put_each(text, |byte| byte);
     }
 }

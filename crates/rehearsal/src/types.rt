@@ -43,7 +43,7 @@ impl Line {
 // Why the reading ended, where the output took each answer.
 #[derive(Clone, Copy)]
 pub enum End {
-    // A read brought so many bytes: none.
+    // At a read, and how many bytes it brought: none.
     Input(usize),
     // So many pieces were answered.
     Pieces(u64),
